@@ -1,0 +1,45 @@
+-- The answer: a text and the report buffer give the number and every byte of the buffer.
+use mathlib.Core.Bool.{true, false}
+use mathlib.Core.List.{List, _++_}
+use Prim.Native.Nat.{ℕ}
+use lib.Dec.{ltb}
+use lib.ListN.{length, drop}
+use Rattle.rules.specs.Layout.{Reading}
+use Rattle.rules.specs.Answers.{Ans, refused, got, _>>=_, _>>_}
+use Rattle.rules.specs.Walk.{read}
+use Rattle.rules.specs.Loading.{weighed}
+use Rattle.rules.specs.Curve.{Loaded, loaded}
+use Rattle.rules.specs.Report.{Judgement, judgement, noJudgement, report, reportLength}
+
+-- A reading is judged, or refused with 7 or 8: on the reading, never on the text.
+unfoldable pub judged : Reading → Ans Judgement
+unfolding weighed loaded judgement _>>=_ _>>_
+judged r = do
+  weighed r
+  got (judgement (loaded r))
+
+-- The refusals in 01's order: 1 to 6, then 7, then 8.
+unfoldable pub answered : List ℕ → Ans Judgement
+unfolding read judged _>>=_
+answered t = do
+  r ← read t
+  judged r
+
+abbrev pub numberOf : Ans Judgement → ℕ
+numberOf (refused n l o) = n
+numberOf (got j) = 0
+
+unfoldable pub reportOf : Ans Judgement → List ℕ
+unfolding report
+reportOf (refused n l o) = report n l o noJudgement
+reportOf (got j) = report 0 0 0 j
+
+-- The number that is sent back. 'Order: 9; then' the others.
+unfoldable pub number : List ℕ → List ℕ → ℕ
+unfolding answered
+number t buffer = elim (ltb (length buffer) reportLength) [ true ↦ 9 | false ↦ numberOf (answered t) ]
+
+-- The buffer at the end. 9: 'nothing written'. 'Bytes beyond those written keep their values.'
+unfoldable pub written : List ℕ → List ℕ → List ℕ
+unfolding answered reportOf
+written t buffer = elim (ltb (length buffer) reportLength) [ true ↦ buffer | false ↦ reportOf (answered t) ++ drop reportLength buffer ]

@@ -1,0 +1,13 @@
+pub mod Rounding
+pub mod Numbers
+pub mod Text
+pub mod Blocks
+pub mod Layout
+pub mod Answers
+pub mod Walk
+pub mod Loading
+pub mod Curve
+pub mod Criteria
+pub mod Roll
+pub mod Report
+pub mod Answer

@@ -1,0 +1,89 @@
+-- 'Loading': the entries one by one, the displacement W, the free surfaces and the corrected KG; and the refusals 7 and 8.
+use mathlib.Core.Bool.{Bool, true, false, cond, _&&_}
+use mathlib.Core.List.{List, [], _∷_, _++_}
+use Prim.Native.Nat.{ℕ, _+_, _*_}
+use lib.Dec.{leb, ltb}
+use Rattle.rules.specs.Rounding.{ceil}
+use Rattle.rules.specs.Blocks.{Row, Load, item, tank, Values}
+use Rattle.rules.specs.Layout.{Entries, end, leaf, group, Reading}
+use Rattle.rules.specs.Answers.{Ans, got, test, _>>=_, _>>_}
+
+-- An item or a tank with its values.
+pub record Entry : Type 0 where
+  pub kind : Load
+  pub values : Values kind
+
+-- 'Groups carry no meaning of their own': the entries in reading order, each once.
+unfoldable pub flat : Entries → List Entry
+flat end = []
+flat (leaf k v r) = record { kind = k; values = v } ∷ flat r
+flat (group g r) = flat g ++ flat r
+
+unfoldable pub total : (Entry → ℕ) → List Entry → ℕ
+total f [] = 0
+total f (e ∷ es) = f e + total f es
+
+abbrev pub massOf : (k : Load) → Values k → ℕ
+massOf item v = v .mass
+massOf tank v = v .mass
+
+abbrev pub centreOf : (k : Load) → Values k → ℕ
+centreOf item v = v .centre
+centreOf tank v = v .centre
+
+-- 'Nominally full from 98 %', in 0.1 %.
+abbrev pub nominallyFull : ℕ
+nominallyFull = 980
+
+-- 'Free surface moment of a tank = 1000 x density x inertia if 0 < fill < 980, else 0.'
+abbrev pub freeSurfaceOf : (k : Load) → Values k → ℕ
+freeSurfaceOf item v = 0
+freeSurfaceOf tank v = cond (ltb 0 (v .fill) && ltb (v .fill) nominallyFull) (1000 * v .density * v .inertia) 0
+
+abbrev pub mass : Entry → ℕ
+mass e = massOf (e .kind) (e .values)
+
+abbrev pub moment : Entry → ℕ
+moment e = mass e * centreOf (e .kind) (e .values)
+
+abbrev pub freeSurface : Entry → ℕ
+freeSurface e = freeSurfaceOf (e .kind) (e .values)
+
+-- 'W = sum of masses.'
+unfoldable pub displacement : List Entry → ℕ
+unfolding total
+displacement es = total mass es
+
+-- 'KG = (sum of mass x centre + free surface moments) / W, rounded up.'
+unfoldable pub correctedKG : List Entry → ℕ
+unfolding total displacement
+correctedKG es = ceil (total moment es + total freeSurface es) (displacement es)
+
+-- The W of the first row, and of the last.
+unfoldable pub firstMass : List Row → ℕ
+firstMass [] = 0
+firstMass (r ∷ rs) = r .mass
+
+unfoldable pub lastMass : List Row → ℕ
+lastMass [] = 0
+lastMass (r ∷ []) = r .mass
+lastMass (r ∷ s ∷ rs) = lastMass (s ∷ rs)
+
+-- 7: 'total mass below the first row or above the last'.
+unfoldable pub inTable : List Row → ℕ → Bool
+unfolding firstMass lastMass
+inTable rows w = leb (firstMass rows) w && leb w (lastMass rows)
+
+-- 8: 'corrected KG above 60,000'.
+abbrev pub greatestKG : ℕ
+greatestKG = 60_000
+
+abbrev pub entriesOf : Reading → List Entry
+entriesOf r = flat (r .condition .load)
+
+-- '.. then 7; then 8.' 'For 7, 8 and 9 both are 0.'
+unfoldable pub weighed : Reading → Ans (Unit {0})
+unfolding flat total displacement correctedKG inTable test _>>=_ _>>_
+weighed r = do
+  test (inTable (r .rows) (displacement (entriesOf r))) 7 0 0
+  test (leb (correctedKG (entriesOf r)) greatestKG) 8 0 0

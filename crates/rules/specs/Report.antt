@@ -1,0 +1,73 @@
+-- 'The report is one frame and LF, 209 characters', and the judgement that it reports: eight verdicts and eleven figures.
+use mathlib.Core.Bool.{Bool, true, false, cond}
+use mathlib.Core.List.{List, [], _∷_, _++_, map}
+use Prim.Native.Nat.{ℕ}
+use lib.ListN.{length, replicate}
+use lib.IntN.{ℤ, pos}
+use Rattle.rules.specs.Numbers.{digits, twos}
+use Rattle.rules.specs.Text.{LF, digit, hex}
+use Rattle.rules.specs.Blocks.{block}
+use Rattle.rules.specs.Curve.{Loaded}
+use Rattle.rules.specs.Criteria.{area1, area2, area3, greatestLever, angleOfGreatest, gm, phi0, phi0Figure, passes1, passes2, passes3, passes4, passes5, passes6, passes7}
+use Rattle.rules.specs.Roll.{phi1, net, notJudged, noGust, passes8}
+
+-- '0 fail, 1 pass, 2 not judged, 3 refused.'
+pub data Verdict : Type 0 where
+  fail pass unjudged void : Verdict
+
+abbrev pub verdictNumber : Verdict → ℕ
+verdictNumber fail = 0
+verdictNumber pass = 1
+verdictNumber unjudged = 2
+verdictNumber void = 3
+
+abbrev pub verdict : Bool → Verdict
+verdict true = pass
+verdict false = fail
+
+-- 8, with its order of sentences.
+unfoldable pub verdict8 : Loaded → Verdict
+unfolding notJudged noGust passes8
+verdict8 c = elim (notJudged c) [ true ↦ unjudged | false ↦ elim (noGust c) [ true ↦ fail | false ↦ verdict (passes8 c) ] ]
+
+-- 'The last two are 0 where 8 is not judged, or phi0 or u is none.'
+unfoldable pub where8 : Loaded → ℤ → ℤ
+unfolding notJudged noGust
+where8 c z = elim (notJudged c) [ true ↦ pos 0 | false ↦ elim (noGust c) [ true ↦ pos 0 | false ↦ z ] ]
+
+-- The verdicts of 1 to 8 and the figures of 01's list, in its order.
+pub record Judgement : Type 0 where
+  pub verdicts : List Verdict
+  pub figures : List ℤ
+
+unfoldable pub judgement : Loaded → Judgement
+unfolding passes1 passes2 passes3 passes4 passes5 passes6 passes7 verdict8 area1 area2 area3 greatestLever angleOfGreatest phi0 phi1 net where8
+judgement c = record {
+  verdicts = verdict (passes1 c) ∷ verdict (passes2 c) ∷ verdict (passes3 c) ∷ verdict (passes4 c) ∷ verdict (passes5 c) ∷ verdict (passes6 c) ∷ verdict (passes7 c) ∷ verdict8 c ∷ [];
+  figures =
+      pos (c .w) ∷ pos (c .kg) ∷ gm c ∷ area1 c ∷ area2 c ∷ area3 c ∷ greatestLever c ∷ pos (angleOfGreatest c) ∷ phi0Figure c ∷ where8 c (pos (phi1 c)) ∷ where8 c (net c) ∷ [];
+}
+
+-- 'On refusals 1 to 8 verdicts are 3 and figures 0.'
+abbrev pub noJudgement : Judgement
+noJudgement = record { verdicts = replicate 8 void; figures = replicate 11 (pos 0) }
+
+unfoldable pub concat : List (List ℕ) → List ℕ
+concat [] = []
+concat (l ∷ ls) = l ++ concat ls
+
+-- 'Refusal 1, line 2, offset 2, eight verdicts of 1 byte, eleven figures', 'each .. its own eight bytes'.
+unfoldable pub reportBody : ℕ → ℕ → ℕ → Judgement → List ℕ
+unfolding digits concat
+reportBody number line offset j = digits 1 number ++ (digits 2 line ++ (digits 2 offset ++ (map verdictNumber (j .verdicts) ++ concat (map (λ z. digits 8 (twos z)) (j .figures)))))
+
+abbrev pub reportTag : ℕ
+reportTag = 0xD1
+
+abbrev pub reportLength : ℕ
+reportLength = 209
+
+-- 'D1, length 0065', the body, two characters to a byte, and LF.
+unfoldable pub report : ℕ → ℕ → ℕ → Judgement → List ℕ
+unfolding block hex reportBody
+report number line offset j = hex (block reportTag (reportBody number line offset j)) ++ (LF ∷ [])
