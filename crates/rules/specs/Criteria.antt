@@ -7,8 +7,8 @@ use lib.Signed.{leZ}
 use Rattle.rules.specs.Rounding.{ceil, first, firstIn, peak, sumZ}
 use Rattle.rules.specs.Curve.{Loaded, leverZ, lever, y, E, area}
 
--- The limits of the Code's set. Areas in y units: one metre-degree is 10^11, rounded up from 0.055, 0.03 and 0.09 m·rad.
-pub record Limits : Type 0 where
+-- A set of criteria is its limits. Areas in y units: one metre-degree is 10^11, rounded up from 0.055, 0.03 and 0.09 m·rad.
+pub record Criteria : Type 0 where
   pub area1 : ℕ
   pub area2 : ℕ
   pub area3 : ℕ
@@ -17,8 +17,9 @@ pub record Limits : Type 0 where
   pub gm : ℕ
   pub heel : ℕ
 
-abbrev pub limits : Limits
-limits = record { area1 = 315_126_800_000; area2 = 171_887_400_000; area3 = 515_662_100_000; lever = 1_000_000_000; angle = 250; gm = 150; heel = 160 }
+-- The Code's set.
+abbrev pub code : Criteria
+code = record { area1 = 315_126_800_000; area2 = 171_887_400_000; area3 = 515_662_100_000; lever = 1_000_000_000; angle = 250; gm = 150; heel = 160 }
 
 -- 1. 'Area 0 to min(300, E).'
 unfoldable pub area1 : Loaded → ℤ
@@ -77,28 +78,28 @@ phi0Figure c = cond (leb (phi0 c) (E c)) (pos (phi0 c)) (negsuc 0)
 -- ---- the verdicts
 unfoldable pub passes1 : Loaded → Bool
 unfolding area1
-passes1 c = leZ (pos (limits .area1)) (area1 c)
+passes1 c = leZ (pos (code .area1)) (area1 c)
 
 unfoldable pub passes2 : Loaded → Bool
 unfolding area2
-passes2 c = leZ (pos (limits .area2)) (area2 c)
+passes2 c = leZ (pos (code .area2)) (area2 c)
 
 unfoldable pub passes3 : Loaded → Bool
 unfolding area3
-passes3 c = leZ (pos (limits .area3)) (area3 c)
+passes3 c = leZ (pos (code .area3)) (area3 c)
 
 unfoldable pub passes4 : Loaded → Bool
 unfolding greatestLever
-passes4 c = leb 300 (E c) && leZ (pos (limits .lever)) (greatestLever c)
+passes4 c = leb 300 (E c) && leZ (pos (code .lever)) (greatestLever c)
 
 unfoldable pub passes5 : Loaded → Bool
 unfolding angleOfGreatest
-passes5 c = leb (limits .angle) (angleOfGreatest c)
+passes5 c = leb (code .angle) (angleOfGreatest c)
 
 unfoldable pub passes6 : Loaded → Bool
-passes6 c = leZ (pos (limits .gm)) (gm c)
+passes6 c = leZ (pos (code .gm)) (gm c)
 
 -- 'Pass: phi0 <= 160 and 10 phi0 <= 8 x deck edge. None: fail.'
 unfoldable pub passes7 : Loaded → Bool
 unfolding phi0
-passes7 c = leb (phi0 c) (E c) && leb (phi0 c) (limits .heel) && leb (10 * phi0 c) (8 * c .weather .deckEdge)
+passes7 c = leb (phi0 c) (E c) && leb (phi0 c) (code .heel) && leb (10 * phi0 c) (8 * c .weather .deckEdge)

@@ -1,0 +1,148 @@
+//! The bench sheet: P1 to P13, its unmarked lines, and the slips it has met.
+
+use crate::criteria::{judge, Gust, Wind, FAIL, PASS};
+use crate::curve::Curve;
+use crate::line::read_up;
+use crate::loading::laden;
+use crate::parse::{document, Document};
+use crate::refusal::Refusal;
+use crate::report::report;
+use crate::roll;
+use crate::text::lines;
+
+const SHIP: &str = "A1000D0000C350000027100000000000\n";
+const ROW_1: &str = "A2002200155CC00FA0119400000189030F04970620078A08FC0A220B050BA20C5C0CCD0D48\n";
+const ROW_2: &str = "A2002200186A001130119400000189030F04970620078A08FC0A220B050BA20C5C0CCD0D48\n";
+const CONDITION: &str = "A30018C1000C000009C40FA002BC01F400C8C2000600155CC00FA0\n";
+
+const REPORT: &str = concat!(
+    "D1006500000000000101010101010101",
+    "0000000000155CC00000000000000FA000000000000001F4",
+    "000000645737BC0000000042E46A1900000000A73BA1D500",
+    "0000000059682F00000000000000012C000000000000002A",
+    "00000000000000EF000000478E8D8F80\n"
+);
+
+fn p1() -> String {
+    [SHIP, ROW_1, ROW_2, CONDITION].concat()
+}
+
+/// P1 with other words in its condition, each `old` standing there once.
+fn p1_with(changes: &[(&str, &str)]) -> String {
+    let mut condition = CONDITION.to_string();
+    for (old, new) in changes {
+        assert_eq!(condition.matches(old).count(), 1);
+        condition = condition.replace(old, new);
+    }
+    [SHIP, ROW_1, ROW_2, &condition].concat()
+}
+
+fn read(text: &str) -> Document {
+    lines(text.as_bytes())
+        .and_then(|lines| document(&lines))
+        .expect("the bench sheet's text is sound")
+}
+
+fn refused(text: &str) -> Option<Refusal> {
+    judge(text.as_bytes()).err()
+}
+
+#[test]
+fn p1_report() {
+    assert_eq!(report(&judge(p1().as_bytes())), REPORT);
+}
+
+#[test]
+fn p2_to_p4_the_roll() {
+    let document = read(&p1());
+    let laden = laden(&document).expect("P1 lies on a row");
+    let n = roll::period(&document.ship, laden.draught, laden.gm());
+    assert_eq!(n, 1_156);
+    assert_eq!(read_up(&roll::S, n), 681);
+    assert_eq!(roll::angle(&document.ship, 700, &laden), Some(239));
+}
+
+#[test]
+fn p5_to_p7_the_wind_and_the_gust() {
+    let document = read(&p1());
+    let laden = laden(&document).expect("P1 lies on a row");
+    let curve = Curve::of(&laden);
+    let wind = Wind::on(&document, &laden, &curve);
+    assert_eq!((wind.steady_lever, wind.gust_lever), (37, 56));
+    assert_eq!(curve.y(-50), -221_800_000);
+    let Some(Gust { start, end, .. }) = wind.gust(&curve, 239, 500) else {
+        panic!("P1 has a steady heel and a gust's first angle");
+    };
+    assert_eq!((start, end), (-198, 500));
+}
+
+#[test]
+fn p10_and_p11_an_item_too_long_and_too_short() {
+    let long = p1_with(&[("C20006", "C20007")]);
+    assert_eq!(refused(&long), Some(Refusal::at(2, 4, 18)));
+    let short = p1_with(&[("C20006", "C20005")]);
+    assert_eq!(refused(&short), Some(Refusal::at(3, 4, 18)));
+}
+
+#[test]
+fn p12_the_empty_text() {
+    assert_eq!(refused(""), Some(Refusal::at(5, 0, 0)));
+}
+
+#[test]
+fn p13_a_mass_below_the_first_row() {
+    let light = p1_with(&[("00155CC00FA0", "00155CBF0FA0")]);
+    assert_eq!(refused(&light), Some(Refusal::at(7, 0, 0)));
+}
+
+#[test]
+fn too_many_characters() {
+    let mut text = p1();
+    text.push_str(&"0".repeat(12_000 - text.len()));
+    assert_eq!(refused(&text), Some(Refusal::at(1, 5, 0)));
+    text.push('\n');
+    assert_eq!(refused(&text), Some(Refusal::at(1, 0, 0)));
+}
+
+#[test]
+fn flooding_at_300_leaves_no_area_for_criterion_2() {
+    let judged = judge(p1_with(&[("01F400C8", "012C00C8")]).as_bytes()).expect("sound");
+    assert_eq!((judged.verdicts[1], judged.figures[4]), (FAIL, 0));
+    assert_eq!(judged.figures[6], judge(p1().as_bytes()).expect("sound").figures[6]);
+}
+
+/// P1 with the wind arm that heels it to 160 tenths.
+#[test]
+fn steady_heel_of_160_and_the_deck_edge() {
+    let heel = |arm: u32, edge: u32| {
+        let weather = format!("C1000C000009C4{arm:04X}02BC01F4{edge:04X}");
+        let text = p1_with(&[("C1000C000009C40FA002BC01F400C8", &weather)]);
+        judge(text.as_bytes()).expect("sound")
+    };
+    let arm = (0..60_000)
+        .find(|&arm| heel(arm, 200).figures[8] == 160)
+        .expect("an arm that heels P1 to 160");
+    assert_eq!(heel(arm, 200).verdicts[6], PASS);
+    assert_eq!(heel(arm, 199).verdicts[6], FAIL);
+}
+
+#[test]
+fn a_group_past_its_parent_but_not_past_its_line() {
+    let item = "C2000600155CC00FA0";
+    let weather = "C1000C000009C40FA002BC01F400C8";
+    let inner = format!("C4000A{item}");
+    let outer = format!("C4000C{inner}");
+    let condition = format!("A3{:04X}{weather}{outer}{item}\n", 15 + 15 + 9);
+    let text = [SHIP, ROW_1, ROW_2, &condition].concat();
+    assert_eq!(refused(&text), Some(Refusal::at(2, 4, 21)));
+}
+
+#[test]
+fn the_gust_lever_is_made_of_the_rounded_steady_lever() {
+    let document = read(&p1());
+    let laden = laden(&document).expect("P1 lies on a row");
+    let wind = Wind::on(&document, &laden, &Curve::of(&laden));
+    let unrounded = (3 * 5_040 * 2_500 * 4_000_i128 + 2 * 981 * 1_400_000 - 1) / (2 * 981 * 1_400_000);
+    assert_eq!(unrounded, 56 - 1 + i128::from(unrounded == 56));
+    assert_eq!(wind.gust_lever, 56);
+}

@@ -1,0 +1,143 @@
+//! The eight criteria, each with its verdict and its figures.
+
+use crate::curve::{Curve, Y_PER_MILLIMETRE};
+use crate::line::up;
+use crate::loading::{laden, Laden};
+use crate::parse::{document, Document};
+use crate::refusal::Refusal;
+use crate::roll;
+use crate::text::lines;
+
+pub const FAIL: u8 = 0;
+pub const PASS: u8 = 1;
+pub const NOT_JUDGED: u8 = 2;
+
+pub const AREA_TO_30: i128 = 315_126_800_000;
+pub const AREA_30_TO_40: i128 = 171_887_400_000;
+pub const AREA_TO_40: i128 = 515_662_100_000;
+pub const GREATEST_LEVER: i128 = 1_000_000_000;
+pub const ANGLE_OF_GREATEST: i128 = 250;
+pub const LEAST_GM: i128 = 150;
+pub const STEADY_HEEL: i128 = 160;
+const WEATHER_END: i128 = 500;
+
+#[derive(Clone, Debug, PartialEq)]
+pub struct Judgement {
+    pub verdicts: [u8; 8],
+    /// W, KG, GM, areas of 1, 2, 3, greatest y, its angle, phi0, phi1, net.
+    pub figures: [i128; 11],
+}
+
+/// From the text to the judgement, or the first fault met.
+pub fn judge(text: &[u8]) -> Result<Judgement, Refusal> {
+    let document = document(&lines(text)?)?;
+    let laden = laden(&document)?;
+    Ok(judgement(&document, &laden))
+}
+
+fn verdict(holds: bool) -> u8 {
+    if holds {
+        PASS
+    } else {
+        FAIL
+    }
+}
+
+fn judgement(document: &Document, laden: &Laden) -> Judgement {
+    let curve = Curve::of(laden);
+    let flooding = document.condition.weather.flooding;
+    let to_30 = curve.area(0, flooding.min(300));
+    let to_40 = curve.area(0, flooding.min(400));
+    let from_30 = curve.area(300, flooding.min(400));
+    let high = curve.greatest(300..=flooding).map(|(_, y)| y);
+    let angle = curve.greatest(0..=flooding).map_or(0, |(t, _)| t);
+    let wind = Wind::on(document, laden, &curve);
+    let (weather, phi1, net) = wind.weather(document, laden, &curve);
+    Judgement {
+        verdicts: [
+            verdict(to_30 >= AREA_TO_30),
+            verdict(from_30 >= AREA_30_TO_40),
+            verdict(to_40 >= AREA_TO_40),
+            verdict(high.is_some_and(|y| y >= GREATEST_LEVER)),
+            verdict(angle >= ANGLE_OF_GREATEST),
+            verdict(laden.gm() >= LEAST_GM),
+            wind.steady(document.condition.weather.deck_edge),
+            weather,
+        ],
+        figures: [
+            laden.displacement,
+            laden.kg,
+            laden.gm(),
+            to_30,
+            from_30,
+            to_40,
+            high.unwrap_or(0),
+            angle,
+            wind.phi0.unwrap_or(-1),
+            phi1,
+            net,
+        ],
+    }
+}
+
+/// The wind levers in millimetres and the steady heel under the first.
+#[derive(Debug)]
+pub struct Wind {
+    pub steady_lever: i128,
+    pub gust_lever: i128,
+    pub phi0: Option<i128>,
+}
+
+/// The weather criterion's roll from start to the end of the gust's area.
+#[derive(Debug, PartialEq)]
+pub struct Gust {
+    pub start: i128,
+    pub end: i128,
+    pub net: i128,
+}
+
+impl Wind {
+    pub fn on(document: &Document, laden: &Laden, curve: &Curve) -> Wind {
+        let weather = &document.condition.weather;
+        let heeling = 5_040 * weather.wind_area * weather.arm;
+        let steady_lever = up(heeling, 981 * laden.displacement);
+        let steady_y = steady_lever * Y_PER_MILLIMETRE;
+        Wind {
+            steady_lever,
+            gust_lever: up(3 * steady_lever, 2),
+            phi0: curve.first_at_least(steady_y, 0..=weather.flooding),
+        }
+    }
+
+    fn steady(&self, deck_edge: i128) -> u8 {
+        verdict(
+            self.phi0
+                .is_some_and(|phi0| phi0 <= STEADY_HEEL && 10 * phi0 <= 8 * deck_edge),
+        )
+    }
+
+    /// Verdict, phi1 and net of criterion 8.
+    fn weather(&self, document: &Document, laden: &Laden, curve: &Curve) -> (u8, i128, i128) {
+        let condition = &document.condition.weather;
+        let Some(phi1) = roll::angle(&document.ship, condition.block_coefficient, laden) else {
+            return (NOT_JUDGED, 0, 0);
+        };
+        match self.gust(curve, phi1, condition.flooding) {
+            Some(gust) => (verdict(gust.net >= 0), phi1, gust.net),
+            None => (FAIL, 0, 0),
+        }
+    }
+
+    /// None where phi0 or u is none.
+    pub fn gust(&self, curve: &Curve, phi1: i128, flooding: i128) -> Option<Gust> {
+        let phi0 = self.phi0?;
+        let gust_y = self.gust_lever * Y_PER_MILLIMETRE;
+        let last = flooding.min(WEATHER_END);
+        let u = curve.first_at_least(gust_y, phi0..=last)?;
+        let end = curve.stays_to(gust_y, u, last);
+        let exact = curve.y(phi0) == self.steady_lever * Y_PER_MILLIMETRE;
+        let start = if exact { phi0 } else { phi0 - 1 } - phi1;
+        let net = curve.area(start, end) - 2 * gust_y * (end - start);
+        Some(Gust { start, end, net })
+    }
+}

@@ -1,0 +1,99 @@
+//! The loading condition: total mass, the corrected KG, and the ship's
+//! draught, KM and KN at that displacement.
+
+use crate::line::{between, down, up};
+use crate::parse::{Document, Entry, Liquid, Row};
+use crate::refusal::Refusal;
+
+const NOMINALLY_FULL: i128 = 980;
+const HIGHEST_KG: i128 = 60_000;
+
+#[derive(Clone, Debug, PartialEq)]
+pub struct Laden {
+    pub displacement: i128,
+    pub kg: i128,
+    pub draught: i128,
+    pub km: i128,
+    pub kn: Vec<i128>,
+}
+
+impl Laden {
+    pub fn gm(&self) -> i128 {
+        self.km - self.kg
+    }
+}
+
+/// The mass of entries and their moment about the keel, free surfaces in it.
+fn sums(entries: &[Entry]) -> (i128, i128) {
+    entries.iter().fold((0, 0), |(mass, moment), entry| {
+        let (more_mass, more_moment) = match entry {
+            Entry::Item(weight) => (weight.mass, weight.mass * weight.centre),
+            Entry::Tank(weight, liquid) => {
+                (weight.mass, weight.mass * weight.centre + free_surface(liquid))
+            }
+            Entry::Group(inner) => sums(inner),
+        };
+        (mass + more_mass, moment + more_moment)
+    })
+}
+
+fn free_surface(liquid: &Liquid) -> i128 {
+    if liquid.fill > 0 && liquid.fill < NOMINALLY_FULL {
+        1_000 * liquid.density * liquid.inertia
+    } else {
+        0
+    }
+}
+
+/// The laden ship, or refusal 7 (off the rows) or 8 (KG too high).
+pub fn laden(document: &Document) -> Result<Laden, Refusal> {
+    let (displacement, moment) = sums(&document.condition.entries);
+    let Some((lower, upper)) = rows_around(&document.rows, displacement) else {
+        return Err(Refusal::of_loading(7));
+    };
+    let kg = up(moment, displacement);
+    if kg > HIGHEST_KG {
+        return Err(Refusal::of_loading(8));
+    }
+    let at_load = |of_lower: i128, of_upper: i128| {
+        let left = (lower.displacement, of_lower);
+        let right = (upper.displacement, of_upper);
+        let (numerator, denominator) = between(left, right, displacement);
+        down(numerator, denominator)
+    };
+    let kn = lower.kn.iter().zip(&upper.kn);
+    Ok(Laden {
+        displacement,
+        kg,
+        draught: at_load(lower.draught, upper.draught),
+        km: at_load(lower.km, upper.km),
+        kn: kn.map(|(&below, &above)| at_load(below, above)).collect(),
+    })
+}
+
+/// The neighbouring rows with the displacement between them, ends included.
+fn rows_around(rows: &[Row], displacement: i128) -> Option<(&Row, &Row)> {
+    rows.windows(2).find_map(|pair| match pair {
+        [lower, upper]
+            if lower.displacement <= displacement && displacement <= upper.displacement =>
+        {
+            Some((lower, upper))
+        }
+        _ => None,
+    })
+}
+
+#[cfg(test)]
+mod tests {
+    use super::*;
+
+    fn tank(fill: i128) -> i128 {
+        free_surface(&Liquid { fill, density: 1_025, inertia: 7 })
+    }
+
+    #[test]
+    fn free_surface_between_empty_and_nominally_full() {
+        let moments = [0, 1, 979, 980, 1_000].map(tank);
+        assert_eq!(moments, [0, 7_175_000, 7_175_000, 0, 0]);
+    }
+}

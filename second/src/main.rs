@@ -1,0 +1,91 @@
+//! The second program's command line: judge one text, make a corpus, and
+//! answer a corpus with reports or with the places of its faults.
+
+mod corpus;
+mod criteria;
+mod curve;
+mod layout;
+mod line;
+mod loading;
+mod parse;
+mod refusal;
+mod report;
+mod roll;
+mod stream;
+mod text;
+
+#[cfg(test)]
+mod bench;
+
+use std::io::{self, BufReader, BufWriter, ErrorKind, Read, Write};
+use std::process::ExitCode;
+
+use corpus::Corpus;
+use criteria::{judge, Judgement};
+use refusal::Refusal;
+
+const USAGE: &str = "usage: second judge | second corpus --seed S --count N [--small] \
+                     | second answers | second places";
+
+type Answer = Result<Judgement, Refusal>;
+
+fn main() -> ExitCode {
+    let arguments: Vec<String> = std::env::args().skip(1).collect();
+    let words: Vec<&str> = arguments.iter().map(String::as_str).collect();
+    let done = match words.as_slice() {
+        ["judge"] => judge_one(),
+        ["answers"] => answer_all(report::report),
+        ["places"] => answer_all(report::place),
+        ["corpus", options @ ..] => match corpus_asked(options) {
+            Some((corpus, count)) => write_corpus(&corpus, count),
+            None => return usage(),
+        },
+        _ => return usage(),
+    };
+    match done {
+        Ok(()) => ExitCode::SUCCESS,
+        Err(error) if error.kind() == ErrorKind::BrokenPipe => ExitCode::SUCCESS,
+        Err(error) => {
+            eprintln!("second: {error}");
+            ExitCode::FAILURE
+        }
+    }
+}
+
+fn usage() -> ExitCode {
+    eprintln!("{USAGE}");
+    ExitCode::from(2)
+}
+
+fn judge_one() -> io::Result<()> {
+    let mut text = Vec::new();
+    let enough = text::MOST_CHARACTERS as u64 + 1;
+    io::stdin().lock().take(enough).read_to_end(&mut text)?;
+    io::stdout().lock().write_all(report::report(&judge(&text)).as_bytes())
+}
+
+fn answer_all(written: fn(&Answer) -> String) -> io::Result<()> {
+    let mut input = BufReader::new(io::stdin().lock());
+    let mut output = BufWriter::new(io::stdout().lock());
+    while let Some(text) = stream::read_text(&mut input)? {
+        output.write_all(written(&judge(&text)).as_bytes())?;
+    }
+    output.flush()
+}
+
+fn corpus_asked(options: &[&str]) -> Option<(Corpus, u64)> {
+    let (seed, count, small) = match options {
+        ["--seed", seed, "--count", count] => (seed, count, false),
+        ["--seed", seed, "--count", count, "--small"] => (seed, count, true),
+        _ => return None,
+    };
+    Some((Corpus::new(seed.parse().ok()?, small), count.parse().ok()?))
+}
+
+fn write_corpus(corpus: &Corpus, count: u64) -> io::Result<()> {
+    let mut output = BufWriter::new(io::stdout().lock());
+    for number in 0..count {
+        stream::write_text(&mut output, &corpus.text(number))?;
+    }
+    output.flush()
+}
