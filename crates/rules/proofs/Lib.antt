@@ -1,1 +1,4 @@
 pub mod Bench
+pub mod Numbers
+pub mod Answers
+pub mod Fields
