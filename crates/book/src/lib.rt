@@ -1,0 +1,48 @@
+// The ship's book in plain data: what is read of a text and handed on by value, with names from document 01.
+// Lengths are millimetres, masses kilograms, angles tenths of a degree.
+
+// A1.
+pub struct Ship {
+    pub length: u64,
+    pub breadth: u64,
+    pub keel_area: u64,
+    pub bilge: u64,
+}
+
+// A2: one row of the KN table.
+pub struct Row {
+    pub mass: u64,
+    pub draught: u64,
+    pub km: u64,
+    pub kn: [u16; 13],
+}
+
+// The rows of a text, the first `count` of them; those beyond are blank.
+pub struct Table {
+    pub rows: [Row; 40],
+    pub count: usize,
+}
+
+// C1.
+pub struct Weather {
+    pub wind_area: u64,
+    pub z: u64,
+    pub cb: u64,
+    pub flooding: u64,
+    pub deck_edge: u64,
+}
+
+// What the entries add up to: how many, masses, mass moments, free surface moments.
+pub struct Sums {
+    pub count: u64,
+    pub mass: u64,
+    pub moment: u64,
+    pub free_surface: u64,
+}
+
+// The number, the line and the offset that are sent back for a text that is not judged.
+pub struct Refusal {
+    pub number: u8,
+    pub line: usize,
+    pub offset: usize,
+}
