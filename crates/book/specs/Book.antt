@@ -15,13 +15,13 @@ use Rattle.book.specs.declared.Sums.{Sums}
 use Rattle.book.specs.declared.Refusal.{Refusal}
 
 abbrev pub shipOf : Ship → rules.Ship
-shipOf s = record { hullLength = s .length; breadth = s .breadth; keelArea = s .keel-area; bilge = s .bilge }
+shipOf s = record { hullLength = s .length; breadth = s .breadth; keelArea = s .keel; bilge = s .bilge }
 
 abbrev pub rowOf : Row → rules.Row
 rowOf r = record { mass = r .mass; draught = r .draught; km = r .km; kn = r .kn }
 
 abbrev pub weatherOf : Weather → rules.Weather
-weatherOf w = record { windArea = w .wind-area; z = w .z; cb = w .cb; flooding = w .flooding; deckEdge = w .deck-edge }
+weatherOf w = record { windArea = w .wind; z = w .z; cb = w .cb; flooding = w .flooding; deckEdge = w .deck }
 
 -- The rows of a table.
 unfoldable pub rowsOf : Table → List rules.Row
@@ -40,7 +40,7 @@ tableOf rs = record { rows = map plainRow rs ++ replicate (40 - length rs) blank
 
 -- The sums over the entries, each once.
 unfoldable pub sumsOf : Entries → Sums
-sumsOf F = record { count = length (flat F); mass = total mass (flat F); moment = total moment (flat F); free-surface = total freeSurface (flat F) }
+sumsOf F = record { count = length (flat F); mass = total mass (flat F); moment = total moment (flat F); free = total freeSurface (flat F) }
 
 -- An answer that ends in this refusal.
 abbrev pub Refuses : {A : Type 0} → Ans A → Refusal → Type 0

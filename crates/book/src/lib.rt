@@ -5,7 +5,7 @@
 pub struct Ship {
     pub length: u64,
     pub breadth: u64,
-    pub keel_area: u64,
+    pub keel: u64,
     pub bilge: u64,
 }
 
@@ -25,11 +25,11 @@ pub struct Table {
 
 // C1.
 pub struct Weather {
-    pub wind_area: u64,
+    pub wind: u64,
     pub z: u64,
     pub cb: u64,
     pub flooding: u64,
-    pub deck_edge: u64,
+    pub deck: u64,
 }
 
 // What the entries add up to: how many, masses, mass moments, free surface moments.
@@ -37,7 +37,7 @@ pub struct Sums {
     pub count: u64,
     pub mass: u64,
     pub moment: u64,
-    pub free_surface: u64,
+    pub free: u64,
 }
 
 // The number, the line and the offset that are sent back for a text that is not judged.
