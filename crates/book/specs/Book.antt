@@ -6,6 +6,7 @@ use lib.ListN.{length, replicate, take}
 use Rattle.rules.specs.Blocks as rules
 use Rattle.rules.specs.Layout.{Entries}
 use Rattle.rules.specs.Loading.{flat, total, mass, moment, freeSurface}
+use Rattle.rules.specs.Curve as curve
 use Rattle.rules.specs.Answers.{Ans, refused}
 use Rattle.book.specs.declared.Ship.{Ship}
 use Rattle.book.specs.declared.Row.{Row}
@@ -13,6 +14,7 @@ use Rattle.book.specs.declared.Table.{Table}
 use Rattle.book.specs.declared.Weather.{Weather}
 use Rattle.book.specs.declared.Sums.{Sums}
 use Rattle.book.specs.declared.Refusal.{Refusal}
+use Rattle.book.specs.declared.Loaded.{Loaded}
 
 abbrev pub shipOf : Ship → rules.Ship
 shipOf s = record { hullLength = s .length; breadth = s .breadth; keelArea = s .keel; bilge = s .bilge }
@@ -41,6 +43,9 @@ tableOf rs = record { rows = map plainRow rs ++ replicate (40 - length rs) blank
 -- The sums over the entries, each once.
 unfoldable pub sumsOf : Entries → Sums
 sumsOf F = record { count = length (flat F); mass = total mass (flat F); moment = total moment (flat F); free = total freeSurface (flat F) }
+
+abbrev pub loadedOf : Loaded → curve.Loaded
+loadedOf c = record { ship = shipOf (c .ship); weather = weatherOf (c .weather); w = c .w; kg = c .kg; draught = c .draught; km = c .km; kn = c .kn }
 
 -- An answer that ends in this refusal.
 abbrev pub Refuses : {A : Type 0} → Ans A → Refusal → Type 0

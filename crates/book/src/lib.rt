@@ -46,3 +46,14 @@ pub struct Refusal {
     pub line: usize,
     pub offset: usize,
 }
+
+// The loaded ship: the displacement W, the corrected KG, and what the table gives at W.
+pub struct Loaded {
+    pub ship: Ship,
+    pub weather: Weather,
+    pub w: u64,
+    pub kg: u64,
+    pub draught: u64,
+    pub km: u64,
+    pub kn: [u64; 13],
+}
