@@ -57,9 +57,9 @@ concat [] = []
 concat (l ∷ ls) = l ++ concat ls
 
 -- 'Refusal 1, line 2, offset 2, eight verdicts of 1 byte, eleven figures', 'each .. its own eight bytes'.
-unfoldable pub reportBody : ℕ → ℕ → ℕ → Judgement → List ℕ
+unfoldable pub reportBody : ℕ → ℕ → ℕ → List ℕ → List ℤ → List ℕ
 unfolding digits concat
-reportBody number line offset j = digits 1 number ++ (digits 2 line ++ (digits 2 offset ++ (map verdictNumber (j .verdicts) ++ concat (map (λ z. digits 8 (twos z)) (j .figures)))))
+reportBody number line offset verdicts figures = digits 1 number ++ (digits 2 line ++ (digits 2 offset ++ (verdicts ++ concat (map (λ z. digits 8 (twos z)) figures))))
 
 abbrev pub reportTag : ℕ
 reportTag = 0xD1
@@ -68,6 +68,10 @@ abbrev pub reportLength : ℕ
 reportLength = 209
 
 -- 'D1, length 0065', the body, two characters to a byte, and LF.
-unfoldable pub report : ℕ → ℕ → ℕ → Judgement → List ℕ
+unfoldable pub reportLine : ℕ → ℕ → ℕ → List ℕ → List ℤ → List ℕ
 unfolding block hex reportBody
-report number line offset j = hex (block reportTag (reportBody number line offset j)) ++ (LF ∷ [])
+reportLine number line offset verdicts figures = hex (block reportTag (reportBody number line offset verdicts figures)) ++ (LF ∷ [])
+
+unfoldable pub report : ℕ → ℕ → ℕ → Judgement → List ℕ
+unfolding reportLine
+report number line offset j = reportLine number line offset (map verdictNumber (j .verdicts)) (j .figures)

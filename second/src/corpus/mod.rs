@@ -1,4 +1,74 @@
-//! stub
-pub struct Corpus { seed: u64, small: bool }
-impl Corpus { pub fn new(seed: u64, small: bool) -> Corpus { Corpus { seed, small } }
- pub fn text(&self, number: u64) -> Vec<u8> { let _ = (self.seed, self.small); number.to_string().into_bytes() } }
+//! The corpus: first every systematic case in order, then texts by chance.
+//! A text depends on the seed and its own number only.
+
+mod bounds;
+mod chance;
+mod characters;
+mod dice;
+mod draft;
+mod edges;
+mod faults;
+mod load;
+mod order;
+mod rolls;
+mod rows;
+mod sizes;
+mod solve;
+mod vessel;
+mod winds;
+
+#[cfg(test)]
+mod tests;
+
+use dice::Dice;
+
+type Make = Box<dyn Fn(&mut Dice) -> Vec<u8>>;
+
+/// A systematic case: its name and how its text is made.
+pub struct Case {
+    pub name: String,
+    pub make: Make,
+}
+
+/// The list that each part of the corpus adds its cases to.
+#[derive(Default)]
+pub struct Cases {
+    list: Vec<Case>,
+}
+
+impl Cases {
+    fn add(&mut self, name: impl Into<String>, make: impl Fn(&mut Dice) -> Vec<u8> + 'static) {
+        self.list.push(Case { name: name.into(), make: Box::new(make) });
+    }
+}
+
+pub struct Corpus {
+    seed: u64,
+    small: bool,
+    cases: Vec<Case>,
+}
+
+impl Corpus {
+    /// With `small`, the texts by chance stay short.
+    pub fn new(seed: u64, small: bool) -> Corpus {
+        let mut cases = Cases::default();
+        bounds::add(&mut cases);
+        edges::add(&mut cases);
+        winds::add(&mut cases);
+        rolls::add(&mut cases);
+        rows::add(&mut cases);
+        order::add(&mut cases);
+        faults::add(&mut cases);
+        characters::add(&mut cases);
+        sizes::add(&mut cases);
+        Corpus { seed, small, cases: cases.list }
+    }
+
+    pub fn text(&self, number: u64) -> Vec<u8> {
+        let mut dice = Dice::new(self.seed, number);
+        match usize::try_from(number).ok().and_then(|number| self.cases.get(number)) {
+            Some(case) => (case.make)(&mut dice),
+            None => chance::text(&mut dice, self.small),
+        }
+    }
+}

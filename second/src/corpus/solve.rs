@@ -1,0 +1,130 @@
+//! Figures of the curve are sums of station values, so a KN table that gives
+//! a figure exactly can be solved for. A sum is kept as how often each
+//! station's g stands in it.
+
+use super::dice::Dice;
+use super::vessel::Vessel;
+use crate::criteria::{judge, Judgement};
+use crate::curve::SINES;
+
+pub type Weights = [i128; 13];
+
+const MOST_KN: i128 = 30_000;
+
+/// The weights of y(t), so many times, with y(-t) = -y(t).
+fn add_lever(weights: &mut Weights, t: i128, times: i128) {
+    let times = if t < 0 { -times } else { times };
+    let station = usize::try_from(t.abs() / 50).unwrap_or(0);
+    let past = t.abs() % 50;
+    weights[station] += times * (50 - past);
+    if past > 0 {
+        weights[station + 1] += times * past;
+    }
+}
+
+pub fn lever(t: i128) -> Weights {
+    let mut weights = [0; 13];
+    add_lever(&mut weights, t, 1);
+    weights
+}
+
+pub fn area(from: i128, to: i128) -> Weights {
+    let mut weights = [0; 13];
+    for t in from..to {
+        add_lever(&mut weights, t, 1);
+        add_lever(&mut weights, t + 1, 1);
+    }
+    weights
+}
+
+fn sine_sum(weights: &Weights) -> i128 {
+    weights.iter().zip(SINES).map(|(weight, sine)| weight * sine).sum()
+}
+
+fn common_divisor(a: i128, b: i128) -> i128 {
+    if b == 0 {
+        a.abs()
+    } else {
+        common_divisor(b, a % b)
+    }
+}
+
+/// What the weighted sum of KN must be for the figure, if whole numbers can
+/// give it at this KG with the free stations from `from` on.
+fn kn_sum(weights: &Weights, kn: &[i128], kg: i128, figure: i128, from: usize) -> Option<i128> {
+    let needed = figure + kg * sine_sum(weights);
+    if needed % 100_000 != 0 {
+        return None;
+    }
+    let sum: i128 = weights.iter().zip(kn).map(|(weight, kn)| weight * kn).sum();
+    let divisor = weights[from..].iter().fold(0, |all, &weight| common_divisor(all, weight));
+    let missing = needed / 100_000 - sum;
+    (divisor != 0 && missing % divisor == 0).then_some(missing)
+}
+
+/// Changes KN from station `from` on so that the weighted sum of g is the
+/// figure. False if it cannot be done within KN's limits.
+pub fn fit(kn: &mut [i128], weights: &Weights, kg: i128, figure: i128, from: usize) -> bool {
+    let Some(mut missing) = kn_sum(weights, kn, kg, figure, from) else {
+        return false;
+    };
+    let total: i128 = weights[from..].iter().sum();
+    let mut stations: Vec<usize> = (from..13).filter(|&at| weights[at] > 0).collect();
+    if total != 0 {
+        for &station in &stations {
+            kn[station] += missing / total;
+        }
+        missing -= missing / total * stations.iter().map(|&at| weights[at]).sum::<i128>();
+    }
+    stations.sort_by_key(|&station| -weights[station]);
+    for station in stations {
+        kn[station] += missing.div_euclid(weights[station]);
+        missing = missing.rem_euclid(weights[station]);
+    }
+    missing == 0 && kn.iter().all(|kn| (0..=MOST_KN).contains(kn))
+}
+
+/// A vessel whose figure comes out as wanted: KG and the flooding angle are
+/// tried until KN can be solved for, and the judge confirms it.
+pub struct Search {
+    pub flooding: (i128, i128),
+    pub weights: fn(i128) -> Weights,
+    pub from: usize,
+    pub figure: usize,
+}
+
+const TRIES: usize = 300;
+
+impl Search {
+    pub fn vessel(&self, dice: &mut Dice, base: &Vessel, wanted: i128) -> Option<Vessel> {
+        let (least, most) = self.flooding;
+        let turn = dice.between(0, most - least);
+        let mut tries = 0;
+        for step in 0..=most - least {
+            let flooding = least + (turn + step) % (most - least + 1);
+            let weights = (self.weights)(flooding);
+            for kg in base.kg - 700..=base.kg + 700 {
+                let mut vessel = base.clone();
+                vessel.kg = kg;
+                vessel.weather.flooding = flooding;
+                if !fit(&mut vessel.laden().kn, &weights, kg, wanted, self.from) {
+                    continue;
+                }
+                if figures(&vessel).is_some_and(|judged| judged.figures[self.figure] == wanted) {
+                    return Some(vessel);
+                }
+                tries += 1;
+                if tries == TRIES {
+                    return None;
+                }
+            }
+        }
+        None
+    }
+}
+
+/// What the judge says of the vessel with its whole mass at KG.
+pub fn figures(vessel: &Vessel) -> Option<Judgement> {
+    let entries = vec![super::draft::item(vessel.mass, vessel.kg)];
+    judge(&vessel.draft(entries).text()).ok()
+}
