@@ -8,7 +8,7 @@ use lib.ListN.{length, take, drop, length-append, length-take, length-drop, take
 use lib.Seq.{length-take-le, take-append-seam, drop-append-seam}
 use lib.Dec.{leb, eqb}
 use borrow.Author.Tests.{leb-true, eqb-true, le-leb, eq-eqb}
-use Rattle.rules.specs.Numbers.{num, digits, Bytes}
+use Rattle.rules.specs.Numbers.{num, digits, Bytes, full}
 use Rattle.rules.specs.Blocks.{block, size, values, spellValues, Layout, ok, spellBlock}
 use Rattle.rules.specs.Answers.{got}
 use Rattle.rules.specs.Walk.{Head, header, fixed}
@@ -20,6 +20,10 @@ use Rattle.rules.proofs.Fields.{Lawful, spell-named, named-spell, lengt
 pub length-block : (t : ℕ) (body rest : List ℕ) → length (block t body ++ rest) ≡ 3 + length body + length rest
 unfolding block
 length-block t body rest = let l : length (body ++ rest) ≡ length body + length rest = length-append body rest in omega arith
+
+pub full-block : (t : ℕ) (body rest : List ℕ) → full (block t body ++ rest) ≡ true
+unfolding block
+full-block t body rest = refl
 
 pub Bytes-block : (t : ℕ) (body : List ℕ) → t < 256 → length body < 65_536 → Bytes body → Bytes (block t body)
 unfolding block Bytes

@@ -5,3 +5,6 @@ pub mod Fields
 pub mod Lines
 pub mod Heads
 pub mod Walked
+pub mod Conditions
+pub mod Frames
+pub mod Whole

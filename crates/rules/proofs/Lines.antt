@@ -6,7 +6,7 @@ use Prim.Native.Nat.{ℕ, _+_, _-_, _*_, _/_, _%_, _<_}
 use native.Mathlib.Omega.{arith}
 use lib.Dec.{ltb, leb, eqb}
 use borrow.Author.Tests.{ltb-true, ltb-false, leb-true, eqb-true, lt-ltb, le-ltb, le-leb, lt-leb, ne-eqb}
-use Rattle.rules.specs.Numbers.{Bytes, full}
+use Rattle.rules.specs.Numbers.{Bytes}
 use Rattle.rules.specs.Text.{LF, digit, hex, text, Lines}
 use Rattle.rules.specs.Answers.{Ans, refused, got}
 use Rattle.rules.specs.Walk.{nibble, unhex, Pieces, put, split, decode, linesFrom}
@@ -87,7 +87,7 @@ decode-sound [] ln [] ls e = let q : [] ≡ ls = cc in rw (← q) (refl, tt)
 decode-sound [] ln (c ∷ p) ls e = refused-got e
 decode-sound (q ∷ ps) ln p ls e =
     let i = bind-inv _ _ e in
-    let j = test-inv (full (i .0)) 1 ln 0 _ (i .2) in
+    let j = test-inv _ _ _ _ _ (i .2) in
     let k = bind-inv _ _ (j .1) in
     let b = unhex-sound ln p (i .0) (i .1) in
     let r = decode-sound ps _ q (k .0) (k .1) in

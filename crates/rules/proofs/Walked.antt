@@ -84,8 +84,8 @@ module _ (ln : ℕ) where
           let q : one k (a .0) ≡ b = cc in
           rw (← q) (ap₂ block c (v .0), ltb-true 0 n (v .1), v .2)
       go nested c e =
-          let a = test-inv (ltb 0 d) 5 ln at _ e in
-          let f = test-inv (full (h .body)) 5 ln at _ (a .1) in
+          let a = test-inv _ _ _ _ _ e in
+          let f = test-inv _ _ _ _ _ (a .1) in
           let q : nest ≡ b = cc in
           rw (← q) (c, ltb-true 0 d (a .0), f .0)
 
