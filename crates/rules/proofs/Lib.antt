@@ -8,3 +8,6 @@ pub mod Walked
 pub mod Conditions
 pub mod Frames
 pub mod Whole
+pub mod Refused
+pub mod Fuel
+pub mod Sums
