@@ -5,17 +5,17 @@ use mathlib.Core.List.{List, [], _∷_, _++_, append-nil}
 use Prim.Native.Nat.{ℕ, _+_, _-_, _≤_, _<_}
 use native.Mathlib.Omega.{arith}
 use lib.ListN.{length}
-use lib.Dec.{ltb, leb, eqb}
+use lib.Dec.{eqb}
 use borrow.Author.Tests.{ltb-true, leb-true, eqb-true, lt-ltb, le-leb}
 use Rattle.rules.specs.Numbers.{Bytes}
 use Rattle.rules.specs.Text.{Lines}
-use Rattle.rules.specs.Blocks.{block, spellValues, Layout, ok, spellBlock, Ship, ship, Row, row, conditionTag}
-use Rattle.rules.specs.Layout.{Condition, Reading, spellCondition, rowFrames, frames, Rising, fewestRows, mostRows, mostBytes, ConditionLimits}
+use Rattle.rules.specs.Blocks.{block, spellValues, Layout, ok, spellBlock, ship, Row, row, conditionTag}
+use Rattle.rules.specs.Layout.{Condition, Reading, spellCondition, rowFrames, frames, Rising, fewestRows, mostRows, ConditionLimits}
 use Rattle.rules.specs.Answers.{Ans, refused, got}
 use Rattle.rules.specs.Walk.{Head, header, conditionIn, fixedIn, shipFrame, rowIn, Frame, aRow, aCondition, frameOf, Found, tableRow, theCondition, found, frameAt, closed, Tail, after, tail, readFrames}
 use Rattle.rules.proofs.Answers.{refused-got, bind-inv, test-inv, bind-got, test-got}
 use Rattle.rules.proofs.Fields.{Lawful, length-fits, ship-lawful, row-lawful}
-use Rattle.rules.proofs.Heads.{full-block, Bytes-block, Bytes-fixed, header-sound, header-got, fixed-sound, fixed-got}
+use Rattle.rules.proofs.Heads.{Bytes-block, Bytes-fixed, header-sound, header-got, fixed-sound, fixed-got}
 use Rattle.rules.proofs.Conditions.{Bytes-condition, inside-sound, inside-got}
 
 -- ---- a frame that fills its line

@@ -4,7 +4,7 @@ use mathlib.Core.List.{List, [], _∷_}
 use Prim.Native.Nat.{ℕ, zero, suc, _+_, _-_, _≤_, _<_}
 use native.Mathlib.Omega.{arith}
 use lib.ListN.{length}
-use Rattle.rules.specs.Layout.{end, leaf, group, leaves}
+use Rattle.rules.specs.Layout.{end, leaf, group}
 use Rattle.rules.specs.Answers.{got, _>>=_}
 use Rattle.rules.specs.Walk.{Head, header, Block, one, nest, blockAt, Walk, step, walk, entries}
 use Rattle.rules.proofs.Answers.{bind-cong}

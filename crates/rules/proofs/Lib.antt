@@ -11,3 +11,6 @@ pub mod Whole
 pub mod Refused
 pub mod Fuel
 pub mod Sums
+pub mod Parts
+pub mod Ways
+pub mod FrameWays

@@ -2,7 +2,7 @@
 use mathlib.Core.Path.{_≡_, refl, ap, ap₂, sym, _∙_}
 use mathlib.Core.Bool.{Bool, true, false, cond}
 use mathlib.Core.List.{List, [], _∷_, _++_}
-use Prim.Native.Nat.{ℕ, zero, suc, _+_, _-_, max, _≤_, _<_}
+use Prim.Native.Nat.{ℕ, zero, suc, _+_, _-_, _≤_, _<_}
 use native.Mathlib.Omega.{arith}
 use lib.ListN.{length}
 use lib.Dec.{ltb, eqb}
@@ -10,8 +10,8 @@ use borrow.Author.Tests.{ltb-true, eqb-true, lt-ltb}
 use Rattle.rules.specs.Numbers.{Bytes, full}
 use Rattle.rules.specs.Blocks.{block, spellValues, ok, spellBlock, item, tank, entry, groupTag}
 use Rattle.rules.specs.Layout.{Entries, end, leaf, group, spell, leaves, depth, some, Good}
-use Rattle.rules.specs.Answers.{Ans, refused, got, _>>=_}
-use Rattle.rules.specs.Walk.{Head, header, Tag, load, nested, tagOf, Block, one, nest, begun, blockAt, Walk, step, walk}
+use Rattle.rules.specs.Answers.{refused, got, _>>=_}
+use Rattle.rules.specs.Walk.{Head, Tag, load, nested, tagOf, Block, one, nest, begun, blockAt, Walk, step, walk}
 use Rattle.rules.proofs.Numbers.{Bytes-append}
 use Rattle.rules.proofs.Answers.{refused-got, bind-inv, test-inv, bind-got, test-got}
 use Rattle.rules.proofs.Fields.{entry-lawful}

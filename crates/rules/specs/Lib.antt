@@ -5,6 +5,7 @@ pub mod Blocks
 pub mod Layout
 pub mod Answers
 pub mod Walk
+pub mod Parts
 pub mod Loading
 pub mod Curve
 pub mod Criteria
