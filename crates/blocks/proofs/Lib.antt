@@ -1,0 +1,5 @@
+pub mod Heads
+pub mod Limits
+pub mod Values
+pub mod Entries
+pub mod Stations

@@ -1,0 +1,53 @@
+use mathlib.Core.Path.{ap, sym, _∙_}
+use borrow.Author.Needs.{needs}
+use denote.Ref.{now}
+use Rattle.rules.proofs.FrameWays.{ship-short, ship-tag, ship-in}
+use Rattle.blocks.specs.Told.{shipRead}
+use Rattle.blocks.proofs.Heads.{head-short, head-block}
+use Rattle.blocks.proofs.ship_frame.Statement.{statement}
+use Rattle.blocks.proofs.ship_frame.Tie as tie
+
+header-requires : tie.Need-header-requires
+header-requires c κs = search needs
+
+enum-known-tag : tie.Need-enum-known-tag
+enum-known-tag c = search needs
+
+enum-told : tie.Need-enum-told
+enum-told c = search needs
+
+returns : tie.Need-returns
+returns c = let h = c .before .before in sym (ap shipRead (ship-short _ _ (head-short _ _ (h .header .ensures) (c .enum-told .given .1) _ _)))
+
+returns-2 : tie.Need-returns-2
+returns-2 c =
+    let k = c .before .before in
+    let h = k .before .before in
+    let b = head-block (now (h .before .before .args .s)) _ (h .header .ensures) _ _ (k .tag .given .1) in
+    sym (ap shipRead (ship-tag _ _ _ (k .tag .given .0 .1 .0) (b .1 _ _) (c .if1 .taken)))
+
+ship-in-requires : tie.Need-ship-in-requires
+ship-in-requires c κs =
+    let k = c .before .before in
+    let h = k .before .before in
+    head-block (now (h .before .before .args .s)) _ (h .header .ensures) _ _ (k .tag .given .1) .0
+
+returns-3 : tie.Need-returns-3
+returns-3 c =
+    let i = c .before in
+    let k = i .before .before in
+    let h = k .before .before in
+    let b = head-block (now (h .before .before .args .s)) _ (h .header .ensures) _ _ (k .tag .given .1) in
+    c .ship-in .ensures ∙ sym (ap shipRead (ship-in _ _ _ (k .tag .given .0 .1 .0) (b .1 _ _) (i .if1 .left)))
+
+pub ship-frame-spec : {M : Type 1} → statement M
+ship-frame-spec =
+    tie.close
+    (tie.spec
+    header-requires
+    enum-known-tag
+    enum-told
+    returns
+    returns-2
+    ship-in-requires
+    returns-3)
