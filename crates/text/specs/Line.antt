@@ -1,12 +1,13 @@
 -- The line at the front of a text, as the code reads it: pair after pair up to the first that is none, and then what ends it.
+use mathlib.Core.Path.{_≡_}
 use mathlib.Core.Bool.{cond}
 use mathlib.Core.List.{List, [], _∷_, _++_}
-use Prim.Native.Nat.{ℕ, zero, suc, _+_, _*_}
+use Prim.Native.Nat.{ℕ, zero, suc, _+_, _*_, _<_}
 use lib.Dec.{eqb}
-use lib.ListN.{length, drop}
+use lib.ListN.{length, take, drop}
 use Rattle.rules.specs.Text.{LF}
-use Rattle.rules.specs.Answers.{Ans, refused, got}
-use Rattle.rules.specs.Walk.{nibble}
+use Rattle.rules.specs.Answers.{Ans, refused, got, _>>=_}
+use Rattle.rules.specs.Walk.{nibble, linesFrom}
 use Rattle.text.specs.declared.Digit.{Digit}
 use Rattle.text.specs.declared.Digit.the-variants as digit
 use Rattle.text.specs.declared.Pair.{Pair}
@@ -54,3 +55,9 @@ ended (suc n) (c ∷ s) = cond (eqb c LF) (line.Line (suc n)) line.Not
 -- 'A line is an even, nonzero number of digits 0-9 A-F, then one LF.'
 unfoldable pub lineOf : List ℕ → LineRead
 lineOf t = ended (length (decoded t)) (drop (2 * length (decoded t)) t)
+
+-- ---- what an answer says in the document's terms: refusal 1, or the line's bytes and the lines after it
+abbrev pub LineIs : List ℕ → List ℕ → LineRead → Type 0
+LineIs t out line.End = t ≡ []
+LineIs t out line.Not = (ln : ℕ) → linesFrom ln t ≡ refused 1 ln 0
+LineIs t out (line.Line n) = (0 < n) × (2 * n < length t) × ((ln : ℕ) → linesFrom ln t ≡ (linesFrom (ln + 1) (drop (2 * n + 1) t) >>= λ r. got (take n out ∷ r)))

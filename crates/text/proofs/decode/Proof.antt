@@ -1,14 +1,12 @@
-use borrow.Author.Needs.{needs}
-use native.Mathlib.Omega.{arith}
-use mathlib.Core.Path.{_≡_, sym, _∙_}
+-- `decode` meets its contract: the pairs before n are decoded, the others are still to come.
 use Prim.Native.Nat.{_-_}
+use borrow.Author.Needs.{needs}
 use lib.ListN.{length}
+use mathlib.Core.Path.{sym, _∙_}
+use native.Mathlib.Omega.{arith}
 use Rattle.text.proofs.Decoded.{Going, going-none, going-more, going-done, last-pair, no-pair}
 use Rattle.text.proofs.decode.Statement.{statement}
 use Rattle.text.proofs.decode.Tie as tie
-use Rattle.text.proofs.decode.Reads as reads
-use Rattle.text.proofs.decode.Lts as lts
-use Rattle.text.proofs.pair_of.Reads as pair-of-reads
 
 abbrev Inv-loop : tie.InvT-loop
 Inv-loop text out₀ n₀ out n = Going text out₀ out n
@@ -16,83 +14,64 @@ Inv-loop text out₀ n₀ out n = Going text out₀ out n
 abbrev μ-loop : tie.MeasureT-loop
 μ-loop text out₀ n₀ out n = length text - n
 
--- src/lib.rt:71:5
 loop-holds : tie.Need-loop-holds Inv-loop μ-loop
 loop-holds c = going-none _ _
 
--- src/lib.rt:71:11
 mul-loop : tie.Need-mul-loop Inv-loop μ-loop
 mul-loop c = search needs
 
--- src/lib.rt:71:11
 add-loop : tie.Need-add-loop Inv-loop μ-loop
 add-loop c = search needs
 
--- src/lib.rt:72:42
 mul-pair-of : tie.Need-mul-pair-of Inv-loop μ-loop
 mul-pair-of c = search needs
 
--- src/lib.rt:72:37
 shared-slice-read-pair-of : tie.Need-shared-slice-read-pair-of Inv-loop μ-loop
 shared-slice-read-pair-of c = search needs
 
--- src/lib.rt:72:55
 mul-pair-of-2 : tie.Need-mul-pair-of-2 Inv-loop μ-loop
 mul-pair-of-2 c = search needs
 
--- src/lib.rt:72:55
 add-pair-of : tie.Need-add-pair-of Inv-loop μ-loop
 add-pair-of c = search needs
 
--- src/lib.rt:72:50
 shared-slice-read-pair-of-2 : tie.Need-shared-slice-read-pair-of-2 Inv-loop μ-loop
 shared-slice-read-pair-of-2 c = search needs
 
--- src/lib.rt:72:29
 pair-of-requires : tie.Need-pair-of-requires Inv-loop μ-loop
 pair-of-requires c κs = search needs
 
--- src/lib.rt:72:24
 enum-known-x : tie.Need-enum-known-x Inv-loop μ-loop
 enum-known-x c = search needs
 
--- src/lib.rt:73:13
 enum-told : tie.Need-enum-told Inv-loop μ-loop
 enum-told c = search needs
 
--- src/lib.rt:73:13
 same-length : tie.Need-same-length Inv-loop μ-loop
 same-length c = search needs
 
--- src/lib.rt:73:13
 returns : tie.Need-returns Inv-loop μ-loop
 returns c =
     let l = c .before .before .before .before .before .before in
     going-done (l .loop .inv) (no-pair _ (l .loop .n) (omega arith) (sym (c .before .before .pair-of .ensures) ∙ c .enum-told .given .1))
 
--- src/lib.rt:75:9
 slice-write-out : tie.Need-slice-write-out Inv-loop μ-loop
 slice-write-out c = search needs
 
--- src/lib.rt:76:13
 add-n : tie.Need-add-n Inv-loop μ-loop
 add-n c = search needs
 
--- src/lib.rt:71:5
 loop-less : tie.Need-loop-less Inv-loop μ-loop
 loop-less c = search needs
 
--- src/lib.rt:71:5
 loop-again : tie.Need-loop-again Inv-loop μ-loop
 loop-again c =
     let l = c .before .before .before .before .before .before .before in
     going-more (l .loop .inv) _ (omega arith) (omega arith) (sym (c .before .before .before .pair-of .ensures) ∙ c .before .x .given .1)
 
--- src/lib.rt:66:1
 same-length-2 : tie.Need-same-length-2 Inv-loop μ-loop
 same-length-2 c = search needs
 
--- src/lib.rt:66:1
 returns-2 : tie.Need-returns-2 Inv-loop μ-loop
 returns-2 c = going-done (c .before .loop .inv) (last-pair _ (c .before .loop .n) (omega arith))
 
