@@ -17,6 +17,7 @@ use Rattle.text.specs.declared.Digit.the-variants as digit
 use Rattle.text.specs.declared.Pair.{Pair}
 use Rattle.text.specs.declared.Pair.the-variants as pair
 
+-- A character between a and something is a or more.
 pub low-enough : (a c : ℕ) (x : Bool) {b : Bool} → b ≡ (leb a c && x) → b ≡ true → a ≤ c
 low-enough a c x e t = leb-true a c (both-true (leb a c) x (sym e ∙ t) .0)
 
@@ -29,7 +30,7 @@ digit-lt c v e = go (leb 48 c && leb c 57) (leb 65 c && leb c 70) refl refl e
     go false true p q e = let z : v ≡ c - 55 = cc in let i = both-true (leb 65 c) (leb c 70) q in omega (arith, leb-true)
     go false false p q e = absurd (let z : _≡_ {A = ℕ} 0 1 = cc in omega arith)
 
--- ---- in any line
+-- ---- what a digit and a pair say in any line
 abbrev digitSays : ℕ → Digit → Ans ℕ
 digitSays ln digit.Not = refused 1 ln 0
 digitSays ln (digit.Value x) = got x

@@ -5,7 +5,7 @@ use mathlib.Core.List.{List, [], _∷_}
 use Prim.Native.Nat.{ℕ, suc, _+_, _*_, _<_}
 use native.Mathlib.Omega.{arith}
 use lib.Dec.{eqb}
-use lib.ListN.{length, drop, length-drop}
+use lib.ListN.{length, drop, length-append, length-drop}
 use lib.Seq.{drop-drop, take-append-seam}
 use Rattle.rules.specs.Numbers.{full}
 use Rattle.rules.specs.Text.{LF}
@@ -70,6 +70,10 @@ left ln (a ∷ b ∷ s) = go (pairOf a b) refl (left ln s)
         rw (f .0, f .1, k) (left-more ln a b s x (split s) (decoded s) (drop (2 * length (decoded s)) s) e h)
 
 -- ---- the lines
+pub lines-none : (ln : ℕ) → linesFrom ln [] ≡ got []
+unfolding linesFrom split decode
+lines-none ln = refl
+
 refused-line : (ln : ℕ) (p : List ℕ) (ps : List (List ℕ)) → unhex ln p ≡ refused 1 ln 0 → decode ln p ps ≡ refused 1 ln 0
 unfolding decode unhex
 refused-line ln [] [] e = refused-got (sym e)
@@ -94,11 +98,12 @@ module _ (t : List ℕ) where
   some-line : (out : List ℕ) (x : ℕ) (d s : List ℕ) → s ≡ drop (2 * length (x ∷ d) + 1) t → 2 * length (x ∷ d) < length t → (f : Bool) → ((ln : ℕ) → After ln (split t) (x ∷ d) s f)
       → LineIs t (over (x ∷ d) out) (cond f (line.Line (length (x ∷ d))) line.Not)
   unfolding linesFrom over After
-  some-line out x d s e l true h = (
-    omega arith,
-    l,
-    λ ln. rw (h ln .0) (first-line ln (split t .0) s (x ∷ d) (h ln .1) ∙ test-got _ _ _ _ refl ∙ rw (← e, take-append-seam (x ∷ d) (drop (length (x ∷ d)) out))),
-  )
+  some-line out x d s e l true h = record {
+    some = omega arith;
+    room = omega (arith, length-append (x ∷ d) (drop (length (x ∷ d)) out));
+    within = l;
+    lines = λ ln. rw (h ln .0) (first-line ln (split t .0) s (x ∷ d) (h ln .1) ∙ test-got _ _ _ _ refl ∙ rw (← e, take-append-seam (x ∷ d) (drop (length (x ∷ d)) out)));
+  }
   some-line out x d s e l false h = λ ln. refused-line ln (split t .0) (split t .1) (h ln)
 
   ended-line : (out d rest : List ℕ) → decoded t ≡ d → drop (2 * length d) t ≡ rest → ((ln : ℕ) → Left ln t (split t) d rest) → LineIs t (over d out) (ended (length d) rest)

@@ -2,7 +2,7 @@
 use mathlib.Core.Path.{_≡_}
 use mathlib.Core.Bool.{cond}
 use mathlib.Core.List.{List, [], _∷_, _++_}
-use Prim.Native.Nat.{ℕ, zero, suc, _+_, _*_, _<_}
+use Prim.Native.Nat.{ℕ, zero, suc, _+_, _*_, _≤_, _<_}
 use lib.Dec.{eqb}
 use lib.ListN.{length, take, drop}
 use Rattle.rules.specs.Text.{LF}
@@ -19,7 +19,7 @@ abbrev pub valueOf : Ans ℕ → Digit
 valueOf (refused n l o) = digit.Not
 valueOf (got x) = digit.Value x
 
--- The value of a digit. (It is the same in every line.)
+-- The value of a digit: what `nibble` says in any line.
 unfoldable pub digitOf : ℕ → Digit
 digitOf c = valueOf (nibble 0 c)
 
@@ -28,9 +28,11 @@ byteOf digit.Not l = pair.Not
 byteOf (digit.Value h) digit.Not = pair.Not
 byteOf (digit.Value h) (digit.Value l) = pair.Byte (16 * h + l)
 
+-- Two digits to a byte.
 unfoldable pub pairOf : ℕ → ℕ → Pair
 pairOf a b = byteOf (digitOf a) (digitOf b)
 
+-- A pair's byte and those after it; nothing where it is none.
 abbrev pub before : Pair → List ℕ → List ℕ
 before pair.Not s = []
 before (pair.Byte x) s = x ∷ s
@@ -56,8 +58,15 @@ ended (suc n) (c ∷ s) = cond (eqb c LF) (line.Line (suc n)) line.Not
 unfoldable pub lineOf : List ℕ → LineRead
 lineOf t = ended (length (decoded t)) (drop (2 * length (decoded t)) t)
 
--- ---- what an answer says in the document's terms: refusal 1, or the line's bytes and the lines after it
+-- ---- what an answer says in the document's terms
+-- The first n bytes of the buffer are the first line's, and the other lines stand after its LF.
+pub record Leads (t out : List ℕ) (n : ℕ) : Type 0 where
+  pub some : 0 < n
+  pub room : n ≤ length out
+  pub within : 2 * n < length t
+  pub lines : (ln : ℕ) → linesFrom ln t ≡ (linesFrom (ln + 1) (drop (2 * n + 1) t) >>= λ r. got (take n out ∷ r))
+
 abbrev pub LineIs : List ℕ → List ℕ → LineRead → Type 0
 LineIs t out line.End = t ≡ []
 LineIs t out line.Not = (ln : ℕ) → linesFrom ln t ≡ refused 1 ln 0
-LineIs t out (line.Line n) = (0 < n) × (2 * n < length t) × ((ln : ℕ) → linesFrom ln t ≡ (linesFrom (ln + 1) (drop (2 * n + 1) t) >>= λ r. got (take n out ∷ r)))
+LineIs t out (line.Line n) = Leads t out n

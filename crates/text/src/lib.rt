@@ -37,6 +37,7 @@ fn between(c: u8, low: u8, high: u8) -> bool
     both(low <= c, c <= high)
 }
 
+// The value of a digit 0-9 A-F.
 fn digit_of(c: u8) -> Digit
     ensures { λ r. ⌜ r ≡ digitOf c ⌝ }
 {
