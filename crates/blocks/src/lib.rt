@@ -11,8 +11,8 @@ ghost use Rattle.rules.specs.Loading.{freeSurfaceOf};
 ghost use Rattle.rules.specs.Answers.{refused};
 ghost use Rattle.rules.specs.Walk.{header, fixed, nested, begun, blockAt, weatherAt, fixedIn, shipFrame, rowIn};
 ghost use Rattle.rules.specs.Parts.{be2, be4, headAt};
-ghost use Rattle.book.specs.Book.{shipOf, rowOf, weatherOf};
-ghost use Rattle.blocks.specs.Told.{begunOf, loadOf, itemOf, tankOf, heldOf, leafOf, blockOf, weatherRead, shipRead, rowRead};
+ghost use Rattle.book.specs.Book.{shipOf, rowOf, weatherOf, blankRow};
+ghost use Rattle.blocks.specs.Told.{refusal, begunOf, loadOf, itemOf, tankOf, heldOf, leafOf, blockOf, weatherRead, shipRead, rowRead};
 
 // The tag and the length of the body, which lies inside the parent; or 2.
 pub enum Begun {
@@ -112,6 +112,16 @@ fn fits(x: u64, low: u64, high: u64) -> bool
     ensures { λ r. ⌜ r ≡ (leb low x && leb x high) ⌝ }
 {
     both(low <= x, x <= high)
+}
+
+pub fn refusal(number: u8, line: usize, offset: usize) -> book::Refusal
+    ensures { λ r. ⌜ r ≡ refusal number line offset ⌝ }
+{
+    book::Refusal {
+        number,
+        line,
+        offset,
+    }
 }
 
 // ---- how a block begins
@@ -251,25 +261,13 @@ fn leaf(k: Kind, body: &[u8], line: usize, at: usize, left: u64) -> Block
     ensures { λ r. ⌜ r ≡ leafOf (loadOf k) (fixed line (entry (loadOf k)) (ltb 0 left) at (now (body .entry))) ⌝ }
 {
     if body.len() != size(k) {
-        return Block::Refused(book::Refusal {
-            number: 3,
-            line,
-            offset: at,
-        });
+        return Block::Refused(refusal(3, line, at));
     }
     if left == 0 {
-        return Block::Refused(book::Refusal {
-            number: 5,
-            line,
-            offset: at,
-        });
+        return Block::Refused(refusal(5, line, at));
     }
     let Held::Within(e) = entry_in(k, body) else {
-        return Block::Refused(book::Refusal {
-            number: 6,
-            line,
-            offset: at,
-        });
+        return Block::Refused(refusal(6, line, at));
     };
     Block::Entry(e)
 }
@@ -279,18 +277,10 @@ fn group(body: &[u8], line: usize, at: usize, depth: u64) -> Block
     ensures { λ r. ⌜ r ≡ blockOf (begun line depth 0 at (now (body .entry)) nested) ⌝ }
 {
     if depth == 0 {
-        return Block::Refused(book::Refusal {
-            number: 5,
-            line,
-            offset: at,
-        });
+        return Block::Refused(refusal(5, line, at));
     }
     if body.len() == 0 {
-        return Block::Refused(book::Refusal {
-            number: 5,
-            line,
-            offset: at,
-        });
+        return Block::Refused(refusal(5, line, at));
     }
     Block::Group
 }
@@ -303,11 +293,7 @@ pub fn block_at(tag: u8, body: &[u8], line: usize, at: usize, depth: u64, left: 
         0xC2 => leaf(Kind::Item, body, line, at, left),
         0xC3 => leaf(Kind::Tank, body, line, at, left),
         0xC4 => group(body, line, at, depth),
-        _ => Block::Refused(book::Refusal {
-            number: 4,
-            line,
-            offset: at,
-        }),
+        _ => Block::Refused(refusal(4, line, at)),
     }
 }
 
@@ -340,28 +326,16 @@ pub fn weather_at(tag: u8, body: &[u8], line: usize) -> WeatherRead
     ensures { λ r. ⌜ r ≡ weatherRead (weatherAt line tag (now (body .entry))) ⌝ }
 {
     if tag != 0xC1 {
-        return WeatherRead::Refused(book::Refusal {
-            number: 4,
-            line,
-            offset: 3,
-        });
+        return WeatherRead::Refused(refusal(4, line, 3));
     }
     if body.len() != 12 {
-        return WeatherRead::Refused(book::Refusal {
-            number: 3,
-            line,
-            offset: 3,
-        });
+        return WeatherRead::Refused(refusal(3, line, 3));
     }
     let w = read_weather(body);
     if weather_fits(w) {
         WeatherRead::Within(w)
     } else {
-        WeatherRead::Refused(book::Refusal {
-            number: 6,
-            line,
-            offset: 3,
-        })
+        WeatherRead::Refused(refusal(6, line, 3))
     }
 }
 
@@ -394,28 +368,16 @@ fn ship_in(s: &[u8], len: usize, line: usize) -> ShipRead
     ensures { λ r. ⌜ r ≡ shipRead (fixedIn line ship (headAt 0xA1 len (now (s .entry)))) ⌝ }
 {
     if s.len() != 3 + len {
-        return ShipRead::Refused(book::Refusal {
-            number: 3,
-            line,
-            offset: 0,
-        });
+        return ShipRead::Refused(refusal(3, line, 0));
     }
     if len != 13 {
-        return ShipRead::Refused(book::Refusal {
-            number: 3,
-            line,
-            offset: 0,
-        });
+        return ShipRead::Refused(refusal(3, line, 0));
     }
     let ship = read_ship(&s[3..3 + len]);
     if ship_fits(ship) {
         ShipRead::Within(ship)
     } else {
-        ShipRead::Refused(book::Refusal {
-            number: 6,
-            line,
-            offset: 0,
-        })
+        ShipRead::Refused(refusal(6, line, 0))
     }
 }
 
@@ -424,18 +386,10 @@ pub fn ship_frame(s: &[u8], line: usize) -> ShipRead
     ensures { λ r. ⌜ r ≡ shipRead (shipFrame line (now (s .entry))) ⌝ }
 {
     let Begun::Block { tag, len } = header(s) else {
-        return ShipRead::Refused(book::Refusal {
-            number: 2,
-            line,
-            offset: 0,
-        });
+        return ShipRead::Refused(refusal(2, line, 0));
     };
     if tag != 0xA1 {
-        return ShipRead::Refused(book::Refusal {
-            number: 4,
-            line,
-            offset: 0,
-        });
+        return ShipRead::Refused(refusal(4, line, 0));
     }
     ship_in(s, len, line)
 }
@@ -495,21 +449,23 @@ fn row_fits(r: book::Row) -> bool
     both(fits(r.mass, 100_000, 600_000_000), form)
 }
 
+pub fn blank_row() -> book::Row
+    ensures { λ r. ⌜ r ≡ blankRow ⌝ }
+{
+    book::Row {
+        mass: 0,
+        draught: 0,
+        km: 0,
+        kn: [0u16; 13],
+    }
+}
+
 fn no_row(number: u8, line: usize) -> RowRead
     ensures { λ r. ⌜ r ≡ rowRead (refused number line 0) ⌝ }
 {
     RowRead {
-        answer: RowAnswer::Refused(book::Refusal {
-            number,
-            line,
-            offset: 0,
-        }),
-        row: book::Row {
-            mass: 0,
-            draught: 0,
-            km: 0,
-            kn: [0u16; 13],
-        },
+        answer: RowAnswer::Refused(refusal(number, line, 0)),
+        row: blank_row(),
     }
 }
 

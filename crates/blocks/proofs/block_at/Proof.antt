@@ -15,6 +15,9 @@ leaf-requires-2 c κs = search needs
 group-requires : tie.Need-group-requires
 group-requires c κs = search needs
 
+refusal-requires : tie.Need-refusal-requires
+refusal-requires c κs = search needs
+
 returns : tie.Need-returns
 returns c = c .leaf .ensures ∙ sym (block-load _ _ _ _ _ _ item (c .before .match .keys1))
 
@@ -25,9 +28,17 @@ returns-3 : tie.Need-returns-3
 returns-3 c = c .group .ensures ∙ sym (ap blockOf (block-group _ _ _ _ _ _ (c .before .match .keys3)))
 
 returns-4 : tie.Need-returns-4
-returns-4 c = let n = c .match .rest in sym (ap blockOf (block-other _ _ _ _ _ _ (n .0 .0 .1) (n .0 .1) (n .1)))
+returns-4 c = let n = c .before .match .rest in rw (c .refusal .ensures) (sym (ap blockOf (block-other _ _ _ _ _ _ (n .0 .0 .1) (n .0 .1) (n .1))))
 
 pub block-at-spec : {M : Type 1} → statement M
 block-at-spec =
     tie.close
-    (tie.spec leaf-requires leaf-requires-2 group-requires returns returns-2 returns-3 returns-4)
+    (tie.spec
+    leaf-requires
+    leaf-requires-2
+    group-requires
+    refusal-requires
+    returns
+    returns-2
+    returns-3
+    returns-4)

@@ -16,15 +16,25 @@ enum-known-tag c = search needs
 enum-told : tie.Need-enum-told
 enum-told c = search needs
 
+refusal-requires : tie.Need-refusal-requires
+refusal-requires c κs = search needs
+
 returns : tie.Need-returns
-returns c = let h = c .before .before in sym (ap shipRead (ship-short _ _ (head-short _ _ (h .header .ensures) (c .enum-told .given .1) _ _)))
+returns c =
+    let i = c .before in
+    let h = i .before .before in
+    rw (c .refusal .ensures) (sym (ap shipRead (ship-short _ _ (head-short _ _ (h .header .ensures) (i .enum-told .given .1) _ _))))
+
+refusal-requires-2 : tie.Need-refusal-requires-2
+refusal-requires-2 c κs = search needs
 
 returns-2 : tie.Need-returns-2
 returns-2 c =
-    let k = c .before .before in
+    let i = c .before in
+    let k = i .before .before in
     let h = k .before .before in
     let b = head-block (now (h .before .before .args .s)) _ (h .header .ensures) _ _ (k .tag .given .1) in
-    sym (ap shipRead (ship-tag _ _ _ (k .tag .given .0 .1 .0) (b .1 _ _) (c .if1 .taken)))
+    rw (c .refusal2 .ensures) (sym (ap shipRead (ship-tag _ _ _ (k .tag .given .0 .1 .0) (b .1 _ _) (i .if1 .taken))))
 
 ship-in-requires : tie.Need-ship-in-requires
 ship-in-requires c κs =
@@ -47,7 +57,9 @@ ship-frame-spec =
     header-requires
     enum-known-tag
     enum-told
+    refusal-requires
     returns
+    refusal-requires-2
     returns-2
     ship-in-requires
     returns-3)

@@ -11,12 +11,24 @@ use Rattle.blocks.proofs.ship_in.Tie as tie
 add-if1 : tie.Need-add-if1
 add-if1 c = search needs
 
+refusal-requires : tie.Need-refusal-requires
+refusal-requires c κs = search needs
+
 returns : tie.Need-returns
-returns c = let s = c .before .before in sym (ap shipRead (fixedIn-longer _ 0xA1 _ (now (s .args .s)) (s .pre) ship (c .if1 .taken)))
+returns c =
+    let i = c .before in
+    let s = i .before .before in
+    rw (c .refusal .ensures) (sym (ap shipRead (fixedIn-longer _ 0xA1 _ (now (s .args .s)) (s .pre) ship (i .if1 .taken))))
+
+refusal-requires-2 : tie.Need-refusal-requires-2
+refusal-requires-2 c κs = search needs
 
 returns-2 : tie.Need-returns-2
 unfolding size
-returns-2 c = let s = c .before .before .before in sym (ap shipRead (fixedIn-length _ 0xA1 _ (now (s .args .s)) (s .pre) ship (c .before .if1 .left) (c .if2 .taken)))
+returns-2 c =
+    let i = c .before in
+    let s = i .before .before .before in
+    rw (c .refusal2 .ensures) (sym (ap shipRead (fixedIn-length _ 0xA1 _ (now (s .args .s)) (s .pre) ship (i .before .if1 .left) (i .if2 .taken))))
 
 add-read-ship : tie.Need-add-read-ship
 add-read-ship c = search needs
@@ -36,6 +48,9 @@ read-ship-requires c κs = search needs
 ship-fits-requires : tie.Need-ship-fits-requires
 ship-fits-requires c κs = search needs
 
+refusal-requires-3 : tie.Need-refusal-requires-3
+refusal-requires-3 c κs = search needs
+
 returns-3 : tie.Need-returns-3
 unfolding size
 returns-3 c =
@@ -49,19 +64,22 @@ returns-3 c =
 returns-4 : tie.Need-returns-4
 unfolding size
 returns-4 c =
-    let f = c .before in
+    let i = c .before in
+    let f = i .before in
     let r = f .before in
     let o = r .before .before in
     let s = o .before .before .before in
     let e = r .read-ship .ensures in
-    sym (ap shipRead (fixedIn-outside _ 0xA1 _ (now (s .args .s)) (s .pre) ship (o .before .if1 .left) (o .if2 .left) (ap (ok ship) (sym e) ∙ sym (f .ship-fits .ensures) ∙ c .if3 .left)))
+    rw (c .refusal3 .ensures) (sym (ap shipRead (fixedIn-outside _ 0xA1 _ (now (s .args .s)) (s .pre) ship (o .before .if1 .left) (o .if2 .left) (ap (ok ship) (sym e) ∙ sym (f .ship-fits .ensures) ∙ i .if3 .left))))
 
 pub ship-in-spec : {M : Type 1} → statement M
 ship-in-spec =
     tie.close
     (tie.spec
     add-if1
+    refusal-requires
     returns
+    refusal-requires-2
     returns-2
     add-read-ship
     sub-read-ship
@@ -69,5 +87,6 @@ ship-in-spec =
     part-read-ship-end
     read-ship-requires
     ship-fits-requires
+    refusal-requires-3
     returns-3
     returns-4)

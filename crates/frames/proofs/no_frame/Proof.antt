@@ -1,0 +1,12 @@
+use borrow.Author.Needs.{needs}
+use Rattle.frames.proofs.no_frame.Statement.{statement}
+use Rattle.frames.proofs.no_frame.Tie as tie
+
+blank-row-requires : tie.Need-blank-row-requires
+blank-row-requires c κs = search needs
+
+returns : tie.Need-returns
+returns c = rw (c .blank-row .ensures)
+
+pub no-frame-spec : {M : Type 1} → statement M
+no-frame-spec = tie.close (tie.spec blank-row-requires returns)
