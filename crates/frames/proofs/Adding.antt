@@ -1,8 +1,8 @@
 -- Adding up: entries one after the other, and a group with those after it, come to the sums of the whole.
-use mathlib.Core.Path.{_≡_, ap, sym, _∙_}
-use Prim.Native.Nat.{ℕ, _+_}
+use mathlib.Core.Path.{_≡_}
+use Prim.Native.Nat.{ℕ}
 use native.Mathlib.Omega.{arith}
-use lib.ListN.{length, length-append}
+use lib.ListN.{length-append}
 use Rattle.rules.specs.Blocks.{Load, Values}
 use Rattle.rules.specs.Layout.{Entries, end, leaf, group}
 use Rattle.rules.specs.Loading.{flat, total, mass, moment, freeSurface}

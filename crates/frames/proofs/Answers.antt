@@ -5,10 +5,9 @@ use mathlib.Core.List.{List}
 use Prim.Native.Nat.{ℕ, _+_, _-_, _≤_, _<_}
 use native.Mathlib.Omega.{arith}
 use lib.ListN.{drop}
-use lib.Dec.{ltb, eqb}
 use borrow.Author.Tests.{ltb-true}
 use Rattle.rules.specs.Numbers.{Bytes}
-use Rattle.rules.specs.Blocks.{Load, Values, ok, entry, size}
+use Rattle.rules.specs.Blocks.{Load, Values, ok, entry}
 use Rattle.rules.specs.Blocks as rules
 use Rattle.rules.specs.Layout.{Entries, leaf, group, leaves, mostEntries}
 use Rattle.rules.specs.Layout as layout

@@ -1,5 +1,5 @@
 -- The bounds of sums: of one entry within its limits, of sums put together, of all entries of a condition.
-use mathlib.Core.Path.{_≡_, ap, sym, _∙_}
+use mathlib.Core.Path.{_≡_, sym}
 use mathlib.Core.Bool.{Bool, true, false, cond, _&&_}
 use mathlib.Core.List.{List, [], _∷_}
 use Prim.Native.Nat.{ℕ, suc, _+_, _-_, _*_, _≤_, _<_}
@@ -10,7 +10,6 @@ use lib.Dec.{ltb}
 use Rattle.rules.specs.Numbers.{Bytes}
 use Rattle.rules.specs.Blocks.{ok, Load, item, tank, Values, entry}
 use Rattle.rules.specs.Layout.{Entries, end, leaf, group, leaves, Good, mostEntries}
-use Rattle.rules.specs.Loading.{flat, total, freeSurfaceOf}
 use Rattle.rules.specs.Answers.{got}
 use Rattle.rules.specs.Walk.{entries}
 use Rattle.rules.proofs.Sums.{leaves-flat}

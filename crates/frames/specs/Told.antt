@@ -9,7 +9,6 @@ use Rattle.book.specs.declared.Weather.{Weather}
 use Rattle.blocks.specs.Told.{refusal, plainWeather}
 use Rattle.blocks.specs.declared.RowAnswer.{RowAnswer}
 use Rattle.blocks.specs.declared.RowAnswer.the-variants as row
-use Rattle.blocks.specs.declared.RowRead.{RowRead}
 use Rattle.frames.specs.Sums.{plus}
 use Rattle.frames.specs.declared.LoadRead.{LoadRead}
 use Rattle.frames.specs.declared.LoadRead.the-variants as load

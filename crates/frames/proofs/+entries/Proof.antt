@@ -1,4 +1,3 @@
--- The part that is read grows shorter.
 use mathlib.Core.Path.{_≡_, ap, sym, _∙_}
 use Prim.Native.Nat.{ℕ, _+_, _-_, _≤_, _<_}
 use native.Mathlib.Omega.{arith}
@@ -17,15 +16,17 @@ use Rattle.frames.specs.declared.LoadRead.the-variants.{Sum}
 use Rattle.frames.proofs.Adding.{plus-end}
 use Rattle.frames.proofs.Bounds.{plus-bounded, each-byte}
 use Rattle.frames.proofs.Answers.{told-refused, told-entry, told-group, room, entry-bounded, group-bounded, load-refused, load-sum, after-entry, after-group}
-use Rattle.frames.proofs.+entries.{statement}
-use Rattle.frames.proofs.+entries.Tie.{close}
 use Rattle.frames.proofs.entries.Reads as reads
 use Rattle.frames.proofs.entries.Kinds as kinds
 use Rattle.frames.proofs.+entries.Lts-entries as lts
 use Rattle.blocks.proofs.block_at.Reads as block-at-reads
 use Rattle.blocks.proofs.header.Reads as header-reads
+use Rattle.blocks.proofs.refusal.Reads as refusal-reads
 use Rattle.frames.proofs.add.Reads as add-reads
+use Rattle.frames.proofs.+entries.{statement}
+use Rattle.frames.proofs.+entries.Tie.{close}
 
+-- The part that is read grows shorter.
 abbrev μ : Measures 1 kinds.ps ℕ
 μ κs a = length (now (a .0))
 
@@ -37,7 +38,7 @@ module _ (m : ℕ) where
   Below = and 1 kinds.ps (falls 1 kinds.ps _<_ μ m) reads.Pre
 
   abbrev calls : lts.Claims
-  calls = (header-reads.Asked, header-reads.Learnt, block-at-reads.Asked, block-at-reads.Learnt, add-reads.Asked, add-reads.Learnt, Below, reads.Post)
+  calls = (header-reads.Asked, header-reads.Learnt, refusal-reads.Asked, refusal-reads.Learnt, block-at-reads.Asked, block-at-reads.Learnt, add-reads.Asked, add-reads.Learnt, Below, reads.Post)
 
   -- Where the head of a block is read, and what it is.
   abbrev Known : Type 0
@@ -66,10 +67,13 @@ module _ (m : ℕ) where
   enum-told : lts.Need-enum-told calls Pre reads.Post
   enum-told c = search needs
 
+  refusal-requires : lts.Need-refusal-requires calls Pre reads.Post
+  refusal-requires c κs = search needs
+
   returns-2 : lts.Need-returns-2 calls Pre reads.Post
   returns-2 c =
-      let h = c .before .before in
-      sym (ap (loadRead _) (entries-short _ _ _ _ _ (omega arith) (head-short _ _ (h .header .ensures) (c .enum-told .given .1) _ _)))
+      let h = c .before .before .before in
+      rw (c .refusal .ensures) (sym (ap (loadRead _) (entries-short _ _ _ _ _ (omega arith) (head-short _ _ (h .header .ensures) (c .before .enum-told .given .1) _ _))))
 
   add-body : lts.Need-add-body calls Pre reads.Post
   add-body c = let h = head c in omega arith
@@ -205,6 +209,7 @@ pub +entries-spec : {M : Type 1} → statement M
     (header-requires m)
     (enum-known-tag m)
     (enum-told m)
+    (refusal-requires m)
     (returns-2 m)
     (add-body m)
     (sub-body m)

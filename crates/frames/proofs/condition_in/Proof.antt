@@ -9,11 +9,23 @@ use Rattle.frames.proofs.condition_in.Tie as tie
 add-if1 : tie.Need-add-if1
 add-if1 c = search needs
 
+refusal-requires : tie.Need-refusal-requires
+refusal-requires c κs = search needs
+
 returns : tie.Need-returns
-returns c = let s = c .before .before in sym (ap conditionRead (condition-longer _ 0xA3 _ (now (s .args .s)) (s .pre) (c .if1 .taken)))
+returns c =
+    let i = c .before in
+    let s = i .before .before in
+    rw (c .refusal .ensures) (sym (ap conditionRead (condition-longer _ 0xA3 _ (now (s .args .s)) (s .pre) (i .if1 .taken))))
+
+refusal-requires-2 : tie.Need-refusal-requires-2
+refusal-requires-2 c κs = search needs
 
 returns-2 : tie.Need-returns-2
-returns-2 c = let s = c .before .before .before in sym (ap conditionRead (condition-over _ 0xA3 _ (now (s .args .s)) (s .pre) (c .before .if1 .left) (c .if2 .taken)))
+returns-2 c =
+    let i = c .before in
+    let s = i .before .before .before in
+    rw (c .refusal2 .ensures) (sym (ap conditionRead (condition-over _ 0xA3 _ (now (s .args .s)) (s .pre) (i .before .if1 .left) (i .if2 .taken))))
 
 add-inside : tie.Need-add-inside
 add-inside c = search needs
@@ -41,7 +53,9 @@ condition-in-spec =
     tie.close
     (tie.spec
     add-if1
+    refusal-requires
     returns
+    refusal-requires-2
     returns-2
     add-inside
     sub-inside

@@ -21,8 +21,11 @@ head : (c : tie.After-known-told)
     (3 + c .before .tag .given .0 .1 .0 ≤ length s) × ((ln at : ℕ) → header ln at s ≡ got (headAt (c .before .tag .given .0 .0) (c .before .tag .given .0 .1 .0) s))
 head c = head-block _ _ (c .before .before .before .header .ensures) _ _ (c .before .tag .given .1)
 
+refusal-requires : tie.Need-refusal-requires
+refusal-requires c κs = search needs
+
 returns : tie.Need-returns
-returns c = sym (ap conditionRead (inside-none _ _ (c .if1 .taken)))
+returns c = rw (c .refusal .ensures) (sym (ap conditionRead (inside-none _ _ (c .before .if1 .taken))))
 
 header-requires : tie.Need-header-requires
 header-requires c κs = search needs
@@ -33,10 +36,14 @@ enum-known-tag c = search needs
 enum-told : tie.Need-enum-told
 enum-told c = search needs
 
+refusal-requires-2 : tie.Need-refusal-requires-2
+refusal-requires-2 c κs = search needs
+
 returns-2 : tie.Need-returns-2
 returns-2 c =
-    let h = c .before .before in
-    sym (ap conditionRead (inside-short _ _ (omega arith) (head-short _ _ (h .header .ensures) (c .enum-told .given .1) _ _)))
+    let i = c .before in
+    let h = i .before .before in
+    rw (c .refusal2 .ensures) (sym (ap conditionRead (inside-short _ _ (omega arith) (head-short _ _ (h .header .ensures) (i .enum-told .given .1) _ _))))
 
 add-weather-at : tie.Need-add-weather-at
 add-weather-at c = let h = head c in omega arith
@@ -101,10 +108,12 @@ pub inside-spec : {M : Type 1} → statement M
 inside-spec =
     tie.close
     (tie.spec
+    refusal-requires
     returns
     header-requires
     enum-known-tag
     enum-told
+    refusal-requires-2
     returns-2
     add-weather-at
     sub-weather-at
