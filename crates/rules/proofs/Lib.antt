@@ -14,3 +14,4 @@ pub mod Sums
 pub mod Parts
 pub mod Ways
 pub mod FrameWays
+pub mod Inside

@@ -6,6 +6,7 @@ pub mod Layout
 pub mod Answers
 pub mod Walk
 pub mod Parts
+pub mod Places
 pub mod Loading
 pub mod Curve
 pub mod Criteria
