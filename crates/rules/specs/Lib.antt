@@ -8,6 +8,7 @@ pub mod Walk
 pub mod Parts
 pub mod Places
 pub mod Loading
+pub mod Leaves
 pub mod Curve
 pub mod Criteria
 pub mod Roll
