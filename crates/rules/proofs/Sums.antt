@@ -5,7 +5,7 @@ use Prim.Native.Nat.{ℕ, suc, _+_}
 use native.Mathlib.Omega.{arith}
 use lib.ListN.{length, length-append}
 use Rattle.rules.specs.Layout.{Entries, end, leaf, group, Reading, leaves}
-use Rattle.rules.specs.Loading.{Entry, flat, total, weighed, displacement, correctedKG}
+use Rattle.rules.specs.Loading.{Entry, flat, total, weighed}
 use Rattle.rules.specs.Leaves.{sumLeaves, followed, ungrouped, loadedWith}
 use Rattle.rules.specs.Answers.{got, _>>_}
 use Rattle.rules.specs.Curve.{loaded}

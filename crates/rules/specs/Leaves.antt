@@ -1,6 +1,6 @@
 -- The tree of entries by its leaves: sums over it, and the same leaves with no groups around them.
 use Prim.Native.Nat.{ℕ, _+_}
-use Rattle.rules.specs.Layout.{Entries, end, leaf, group, Condition, Reading}
+use Rattle.rules.specs.Layout.{Entries, end, leaf, group, Reading}
 use Rattle.rules.specs.Loading.{Entry}
 
 -- The sum over the leaves of the tree, each once.

@@ -7,6 +7,7 @@ pub mod Answers
 pub mod Walk
 pub mod Parts
 pub mod Places
+pub mod Met
 pub mod Loading
 pub mod Leaves
 pub mod Curve
