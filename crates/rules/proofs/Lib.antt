@@ -15,3 +15,4 @@ pub mod Parts
 pub mod Ways
 pub mod FrameWays
 pub mod Inside
+pub mod Overrun

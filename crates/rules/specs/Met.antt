@@ -3,7 +3,7 @@
 use mathlib.Core.Path.{_≡_}
 use mathlib.Core.Bool.{true}
 use mathlib.Core.List.{List, [], _∷_, _++_}
-use Prim.Native.Nat.{ℕ, suc, _+_, _-_, _≤_, _<_}
+use Prim.Native.Nat.{ℕ, _+_, _-_, _≤_, _<_}
 use lib.ListN.{length}
 use Rattle.rules.specs.Blocks.{block, ok, spellBlock, Ship, ship, Row, row, conditionTag, Weather, weather, groupTag}
 use Rattle.rules.specs.Layout.{Entries, Condition, spell, spellCondition, leaves, depth, Good, Rising, fewestRows, mostRows, mostDepth, mostEntries, mostBytes, ConditionLimits}
@@ -20,8 +20,8 @@ pub record Passed (d n : ℕ) (F : Entries) : Type 0 where
 -- It stands behind entries that passed; or it is so met inside a group that stands behind entries that passed.
 pub data Meets : ℕ → ℕ → ℕ → List ℕ → ℕ → List ℕ → Type 0 where
   behind : {d n at : ℕ} (F : Entries) (left : List ℕ) → Passed d n F → Meets d n at (spell F ++ left) (at + length (spell F)) left
-  nestedIn : {d n at o : ℕ} {left : List ℕ} (F : Entries) (body rest : List ℕ) → Passed (suc d) n F → Meets d (n - leaves F) (at + length (spell F) + 3) body o left
-      → Meets (suc d) n at (spell F ++ (block groupTag body ++ rest)) o left
+  nestedIn : {d n at o : ℕ} {left : List ℕ} (F : Entries) (body rest : List ℕ) → Passed d n F → 0 < d → Meets (d - 1) (n - leaves F) (at + length (spell F) + 3) body o left
+      → Meets d n at (spell F ++ (block groupTag body ++ rest)) o left
 
 -- ---- among frames
 -- A ship and rows within their limits.
