@@ -24,15 +24,8 @@ pub fn add(cases: &mut Cases) {
 
 fn values(field: &Field) -> Vec<i128> {
     let most_held = (1 << (8 * field.width)) - 1;
-    let mut values = vec![
-        field.least - 1,
-        field.least,
-        field.least + 1,
-        field.most - 1,
-        field.most,
-        field.most + 1,
-        most_held,
-    ];
+    let (least, most) = (field.least, field.most);
+    let mut values = vec![least - 1, least, most, most + 1, most_held];
     values.retain(|&value| (0..=most_held).contains(&value));
     values.sort();
     values.dedup();
@@ -110,8 +103,9 @@ fn all_at(dice: &mut Dice, end: fn(&Field) -> i128) -> Vec<u8> {
             draft.at(&path).values = ends.clone();
         }
     }
-    draft.condition().inner[2].values[0] = 0;
     let displacement = draft.frames[1].values[0];
+    draft.condition().inner[1].values[0] = displacement;
+    draft.condition().inner[2].values[0] = 0;
     let inward = if displacement == 100_000 { 2 } else { 1 };
     draft.frames[inward].values[0] += if inward == 2 { 1 } else { -1 };
     draft.text()

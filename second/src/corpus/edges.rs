@@ -7,24 +7,61 @@ use super::Cases;
 use crate::criteria::{AREA_30_TO_40, AREA_TO_30, AREA_TO_40, GREATEST_LEVER};
 use crate::curve::SINES;
 
-const TO_30: Search =
-    Search { flooding: (230, 330), weights: |e| area(0, e.min(300)), from: 1, figure: 3 };
-const FROM_30: Search =
-    Search { flooding: (330, 430), weights: |e| area(300, e.min(400)), from: 6, figure: 4 };
-const TO_40: Search =
-    Search { flooding: (310, 430), weights: |e| area(0, e.min(400)), from: 1, figure: 5 };
-const GREATEST: Search = Search { flooding: (300, 450), weights: lever, from: 1, figure: 6 };
+const TO_30: Search = Search {
+    flooding: (230, 330),
+    weights: |flooding| area(0, flooding.min(300)),
+    from: 1,
+    figure: 3,
+    prepare: |_| (),
+};
+
+/// An odd area needs a flooding angle beside a station with an odd sine, and
+/// before 30 degrees the one at 10 is the last of these.
+const TO_15: Search = Search { flooding: (101, 149), ..TO_30 };
+
+const FROM_30: Search = Search {
+    flooding: (330, 430),
+    weights: |flooding| area(300, flooding.min(400)),
+    from: 6,
+    figure: 4,
+    prepare: |_| (),
+};
+
+const TO_40: Search = Search {
+    flooding: (310, 430),
+    weights: |flooding| area(0, flooding.min(400)),
+    from: 1,
+    figure: 5,
+    prepare: |_| (),
+};
+
+const GREATEST: Search = Search {
+    flooding: (300, 399),
+    weights: lever,
+    from: 1,
+    figure: 6,
+    prepare: lowered,
+};
+
+/// Levers that rise past 0.20 m between 35 and 40 degrees.
+fn lowered(vessel: &mut Vessel) {
+    let kg = vessel.kg;
+    let row = vessel.laden();
+    for (station, lever) in [(6, 120), (7, 150), (8, 260)] {
+        row.kn[station] = kg * SINES[station] / 100_000 + lever;
+    }
+}
 
 pub fn add(cases: &mut Cases) {
-    for (number, search, limit) in [
-        (1, &TO_30, AREA_TO_30),
-        (2, &FROM_30, AREA_30_TO_40),
-        (3, &TO_40, AREA_TO_40),
-        (4, &GREATEST, GREATEST_LEVER),
+    for (number, exact, beside, limit) in [
+        (1, &TO_30, &TO_15, AREA_TO_30),
+        (2, &FROM_30, &FROM_30, AREA_30_TO_40),
+        (3, &TO_40, &TO_40, AREA_TO_40),
+        (4, &GREATEST, &GREATEST, GREATEST_LEVER),
     ] {
-        for beside in [-1, 0, 1] {
-            cases.add(format!("criterion {number} limit {beside:+}"), move |dice| {
-                let vessel = solved(dice, search, limit + beside);
+        for (search, off) in [(beside, -1), (exact, 0), (beside, 1)] {
+            cases.add(format!("criterion {number} limit {off:+}"), move |dice| {
+                let vessel = solved(dice, search, limit + off);
                 vessel.text(dice)
             });
         }
@@ -43,7 +80,7 @@ pub fn add(cases: &mut Cases) {
 /// The first of the seed's vessels that can be solved for.
 fn solved(dice: &mut Dice, search: &Search, wanted: i128) -> Vessel {
     let mut vessel = vessel::judged(dice);
-    for _ in 0..40 {
+    for _ in 0..400 {
         if let Some(found) = search.vessel(dice, &vessel, wanted) {
             return found;
         }
@@ -90,14 +127,8 @@ fn add_ties(cases: &mut Cases) {
     {
         cases.add(format!("equal levers at stations {first} and {second}, KG {kg}"), move |dice| {
             let mut vessel = vessel::judged(dice);
-            let lift = kg - vessel.kg;
-            vessel.kg = kg;
+            vessel.raise_to(kg);
             vessel.weather.flooding = 600;
-            let row = vessel.laden();
-            row.km = (row.km + lift).clamp(0, 60_000);
-            for (kn, sine) in row.kn.iter_mut().zip(SINES).skip(1) {
-                *kn = (*kn + lift * sine / 100_000).clamp(0, 29_000);
-            }
             crest(&mut vessel, first);
             let row = vessel.laden();
             row.kn[second] = row.kn[first] + kg * (SINES[second] - SINES[first]) / 100_000;
