@@ -1,6 +1,6 @@
 -- Rounding, the straight line and the searches: how document 01 turns fractions and 'the first t with' into whole numbers.
 use mathlib.Core.Bool.{Bool, true, false}
-use mathlib.Core.List.{List, [], _∷_}
+use mathlib.Core.List.{List, _∷_}
 use Prim.Native.Nat.{ℕ, zero, suc, _+_, _-_, _*_, _/_, max}
 use lib.Dec.{ltb}
 use lib.IntN.{ℤ, pos, negsuc, negℤ, _+ℤ_}
@@ -51,7 +51,6 @@ onward way p (q ∷ qs) x = elim (ltb x (q .place)) [ true ↦ line way p q x | 
 
 -- 'Tables linear between points, flat beyond': flat before the first point too.
 unfoldable pub table : Way → List Point → ℕ → ℕ
-unfolding onward
 table way [] x = 0
 table way (p ∷ ps) x = onward way p ps (max x (p .place))
 
@@ -62,7 +61,6 @@ first p (suc n) t = elim (p t) [ true ↦ t | false ↦ first p n (suc t) ]
 
 -- The first of t, .., e that passes a test; past e where none does.
 unfoldable pub firstIn : (ℕ → Bool) → ℕ → ℕ → ℕ
-unfolding first
 firstIn p t e = first p (suc e - t) t
 
 -- The greatest of 0, .., n that passes a test; 0 where none does.

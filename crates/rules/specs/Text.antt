@@ -1,7 +1,7 @@
 -- 'The text': 'A line is an even, nonzero number of digits 0-9 A-F, then one LF.'
 use mathlib.Core.Path.{_≡_}
 use mathlib.Core.Bool.{true, cond}
-use mathlib.Core.List.{List, [], _∷_, _++_}
+use mathlib.Core.List.{List, _∷_, _++_}
 use Prim.Native.Nat.{ℕ, _+_, _/_, _%_}
 use lib.Dec.{ltb}
 use Rattle.rules.specs.Numbers.{Bytes, full}
@@ -15,13 +15,11 @@ digit n = cond (ltb n 10) (48 + n) (55 + n)
 
 -- Bytes as characters, two digits to a byte.
 unfoldable pub hex : List ℕ → List ℕ
-unfolding digit
 hex [] = []
 hex (b ∷ s) = digit (b / 16) ∷ digit (b % 16) ∷ hex s
 
 -- Lines as characters.
 unfoldable pub text : List (List ℕ) → List ℕ
-unfolding hex
 text [] = []
 text (l ∷ ls) = hex l ++ (LF ∷ text ls)
 

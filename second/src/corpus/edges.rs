@@ -80,7 +80,7 @@ pub fn add(cases: &mut Cases) {
 /// The first of the seed's vessels that can be solved for.
 fn solved(dice: &mut Dice, search: &Search, wanted: i128) -> Vessel {
     let mut vessel = vessel::judged(dice);
-    for _ in 0..400 {
+    for _ in 0..20 {
         if let Some(found) = search.vessel(dice, &vessel, wanted) {
             return found;
         }

@@ -119,21 +119,27 @@ pub struct Search {
     pub prepare: fn(&mut Vessel),
 }
 
+/// How far KG may go from the vessel's own: near first, then anywhere.
+const REACHES: [i128; 2] = [700, 24_000];
+
 impl Search {
     pub fn vessel(&self, dice: &mut Dice, base: &Vessel, wanted: i128) -> Option<Vessel> {
         let (least, most) = self.flooding;
         let turn = dice.between(0, most - least);
-        let mut floodings = (0..=most - least).map(|step| least + (turn + step) % (most - least + 1));
-        floodings.find_map(|flooding| self.at(base, flooding, wanted))
+        REACHES.iter().find_map(|&reach| {
+            (0..=most - least)
+                .map(|step| least + (turn + step) % (most - least + 1))
+                .find_map(|flooding| self.at(base, flooding, reach, wanted))
+        })
     }
 
-    fn at(&self, base: &Vessel, flooding: i128, wanted: i128) -> Option<Vessel> {
+    fn at(&self, base: &Vessel, flooding: i128, reach: i128, wanted: i128) -> Option<Vessel> {
         let weights = (self.weights)(flooding);
         let sines = sine_sum(&weights);
         let reachable = |kg: &i128| (wanted + kg * sines) % 100_000 == 0;
-        for kg in (base.kg - 700..=base.kg + 700).filter(reachable) {
+        for kg in ((base.kg - reach).max(0)..=base.kg + reach).filter(reachable) {
             let mut vessel = base.clone();
-            vessel.kg = kg;
+            vessel.raise_to(kg);
             vessel.weather.flooding = flooding;
             (self.prepare)(&mut vessel);
             if fit(&mut vessel.laden().kn, &weights, kg, wanted, self.from)
