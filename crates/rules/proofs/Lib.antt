@@ -1,1 +1,13 @@
 pub mod Bench
+pub mod Numbers
+pub mod Answers
+pub mod Fields
+pub mod Lines
+pub mod Heads
+pub mod Walked
+pub mod Conditions
+pub mod Frames
+pub mod Whole
+pub mod Refused
+pub mod Fuel
+pub mod Sums
