@@ -40,7 +40,7 @@ inside-sound ln body c B l e =
     let f = fixed-sound ln 3 weather weather-lawful true (b .0 .body) (v .0) (h .1) (t .1) in
     let g = walk-sound ln (suc (length (b .0 .rest))) mostDepth mostEntries (6 + length (b .0 .body)) (b .0 .rest) (x .0) (h .2) (s .1) in
     let p : spellBlock weather (v .0) ++ spell (x .0) ≡ body =
-        ap₂ (λ x y. block (weather .tag) x ++ y) (f .0) (g .spells) ∙ ap (λ x. block x (b .0 .body) ++ b .0 .rest) (sym (eqb-true (b .0 .tag) (weather .tag) (t .0))) ∙ h .0
+    ap₂ (λ x y. block (weather .tag) x ++ y) (f .0) (g .spells) ∙ ap (λ x. block x (b .0 .body) ++ b .0 .rest) (sym (eqb-true (b .0 .tag) (weather .tag) (t .0))) ∙ h .0
     in rw (← q) (p, record { sky = f .2; good = g .good; any = sym (full-spell (x .0)) ∙ ap full (g .spells) ∙ s .0; deep = g .deep; many = g .many; long = omega (arith, ap length p) })
 
 pub inside-got : (ln : ℕ) (c : Condition) → ConditionLimits c → inside ln (spellCondition c) ≡ got c

@@ -5,7 +5,7 @@ use Prim.Native.Nat.{ℕ}
 use lib.Dec.{ltb}
 use lib.ListN.{length, drop}
 use Rattle.rules.specs.Layout.{Reading}
-use Rattle.rules.specs.Answers.{Ans, refused, got}
+use Rattle.rules.specs.Answers.{Ans, refused, got, _>>=_, _>>_}
 use Rattle.rules.specs.Walk.{read}
 use Rattle.rules.specs.Loading.{weighed}
 use Rattle.rules.specs.Curve.{loaded}

@@ -1,12 +1,13 @@
 -- Blocks: 'tag (1 byte), length (2 bytes), body of that length'. Each block of fixed size is one table of fields with their limits.
 use mathlib.Core.Bool.{Bool, true, false, _&&_, _||_}
-use mathlib.Core.List.{List, _∷_, _++_}
+use mathlib.Core.List.{List, [], _∷_, _++_}
 use Prim.Native.Nat.{ℕ, _+_}
 use lib.Dec.{leb, ltb, eqb}
 use lib.ListN.{length, take, drop, getD, replicate}
 use Rattle.rules.specs.Numbers.{num, digits}
 
 unfoldable pub block : ℕ → List ℕ → List ℕ
+unfolding digits
 block tag body = tag ∷ (digits 2 (length body) ++ body)
 
 -- A field: its bytes and its limits.

@@ -1,7 +1,7 @@
 -- The layout with no reader in it: what a text can say (`Reading`), how that is spelled, its limits, and so which texts are allowed.
 use mathlib.Core.Path.{_≡_}
 use mathlib.Core.Bool.{Bool, true, false}
-use mathlib.Core.List.{List, _∷_, _++_}
+use mathlib.Core.List.{List, [], _∷_, _++_}
 use Prim.Native.Nat.{ℕ, suc, _+_, max, _≤_, _<_}
 use lib.ListN.{length}
 use Rattle.rules.specs.Text.{text}

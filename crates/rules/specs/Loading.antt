@@ -1,12 +1,12 @@
 -- 'Loading': the entries one by one, the displacement W, the free surfaces and the corrected KG; and the refusals 7 and 8.
 use mathlib.Core.Bool.{Bool, cond, _&&_}
-use mathlib.Core.List.{List, _∷_, _++_}
+use mathlib.Core.List.{List, [], _∷_, _++_}
 use Prim.Native.Nat.{ℕ, _+_, _*_}
 use lib.Dec.{leb, ltb}
 use Rattle.rules.specs.Rounding.{ceil}
 use Rattle.rules.specs.Blocks.{Row, Load, item, tank, Values}
 use Rattle.rules.specs.Layout.{Entries, end, leaf, group, Reading}
-use Rattle.rules.specs.Answers.{Ans, test}
+use Rattle.rules.specs.Answers.{Ans, test, _>>=_, _>>_}
 
 -- An item or a tank with its values.
 pub record Entry : Type 0 where

@@ -1,6 +1,6 @@
 -- Numbers in bytes: 'All numbers are big-endian and unsigned.'
 use mathlib.Core.Bool.{Bool, true, false}
-use mathlib.Core.List.{List, _∷_}
+use mathlib.Core.List.{List, [], _∷_}
 use Prim.Native.Nat.{ℕ, zero, suc, _+_, _-_, _*_, _^_, _/_, _%_, _<_}
 use lib.ListN.{length}
 use lib.IntN.{ℤ, pos, negsuc}

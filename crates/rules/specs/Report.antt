@@ -1,6 +1,6 @@
 -- 'The report is one frame and LF, 209 characters', and the judgement that it reports: eight verdicts and eleven figures.
 use mathlib.Core.Bool.{Bool, true, false}
-use mathlib.Core.List.{List, _∷_, _++_, map}
+use mathlib.Core.List.{List, [], _∷_, _++_, map}
 use Prim.Native.Nat.{ℕ}
 use lib.ListN.{replicate}
 use lib.IntN.{ℤ, pos}

@@ -1,6 +1,6 @@
 -- Criterion 8, severe wind and rolling (Code 2.3): the roll, the start, the gust, and the net area.
 use mathlib.Core.Bool.{Bool, true, false, _||_}
-use mathlib.Core.List.{List, _∷_}
+use mathlib.Core.List.{List, [], _∷_}
 use Prim.Native.Nat.{ℕ, _+_, _-_, _*_, _/_, _^_, min}
 use lib.Dec.{leb, ltb, eqb}
 use lib.IntN.{ℤ, pos, subℕ, natAbs, _+ℤ_, _-ℤ_, _*ℤ_}

@@ -1,7 +1,7 @@
 -- The order of checks: 'then 1 over the whole text; then blocks as they begin, first byte to last, and at each block 2, 4, 3, 5, 6'.
 -- Each step gives what it read, or the refusal with its number, line and offset.
 use mathlib.Core.Bool.{Bool, true, false, cond, _&&_}
-use mathlib.Core.List.{List, _∷_}
+use mathlib.Core.List.{List, [], _∷_}
 use Prim.Native.Nat.{ℕ, zero, suc, _+_, _-_, _*_}
 use lib.Dec.{leb, ltb, eqb}
 use lib.ListN.{length, take, drop}
@@ -9,7 +9,7 @@ use Rattle.rules.specs.Numbers.{num, full}
 use Rattle.rules.specs.Text.{LF}
 use Rattle.rules.specs.Blocks.{Layout, ok, values, within, size, Ship, ship, Row, row, conditionTag, Weather, weather, Load, item, tank, Values, entry, groupTag}
 use Rattle.rules.specs.Layout.{Entries, end, leaf, group, leaves, Condition, Reading, fewestRows, mostRows, mostDepth, mostEntries, mostBytes, mostCharacters}
-use Rattle.rules.specs.Answers.{Ans, refused, got, test}
+use Rattle.rules.specs.Answers.{Ans, refused, got, test, _>>=_, _>>_}
 
 -- ---- 1: over 12,000 characters (line 0), else the first line that isn't a line
 -- The value of a digit 0-9 A-F.
