@@ -1,1 +1,5 @@
 pub mod Bench
+pub mod Signed
+pub mod Rounding
+pub mod StraightLine
+pub mod Tables
