@@ -3,3 +3,4 @@ pub mod Signed
 pub mod Rounding
 pub mod StraightLine
 pub mod Tables
+pub mod Rows
