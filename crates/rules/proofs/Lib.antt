@@ -4,3 +4,5 @@ pub mod Rounding
 pub mod StraightLine
 pub mod Tables
 pub mod Rows
+pub mod Searches
+pub mod Roll

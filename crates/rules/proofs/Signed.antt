@@ -4,6 +4,7 @@ use mathlib.Core.Bool.{Bool, true, false, cond, not}
 use Prim.Native.Nat.{ℕ, zero, suc, _+_, _-_, _*_, _≤_, _<_}
 use native.Mathlib.Omega.{arith}
 use native.Mathlib.Nat.{mul-zero, zero-mul}
+use native.Mathlib.Decide.{decLt}
 use lib.Dec.{T, ltb, leb→le, le→leb, ltb→lt, lt→ltb, nltb→le}
 use lib.IntN.{ℤ, pos, negsuc, negℤ, subℕ, natAbs, _+ℤ_, _-ℤ_, _*ℤ_}
 use lib.Signed.{leZ, ltZ, ltZ-no, mag}
@@ -60,6 +61,12 @@ below a b e = lt? a b (subst T (sym e) tt)
 
 pub not-below : (a b : ℤ) → ltZ a b ≡ false → Le b a
 not-below a b e = le? b a (ltZ-no {a = a} {b = b} (subst (λ (x : Bool). T (not x)) (sym e) tt) .le)
+
+pub at-least : (a b : ℤ) → leZ a b ≡ true → Le a b
+at-least a b e = le? a b (subst T (sym e) tt)
+
+pub not-at-least : (a b : ℤ) → leZ a b ≡ false → Lt b a
+not-at-least a b e = elim (decLt (up b + dn a) (up a + dn b)) [ yes l ↦ l | no l ↦ absurd (subst T e (le! a b (omega arith))) ]
 
 -- ---- the operations, one equation each
 pub sub≡ : (a b : ℕ) → up (subℕ a b) + b ≡ a + dn (subℕ a b)
