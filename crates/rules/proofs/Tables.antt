@@ -61,7 +61,7 @@ module _ (way : Way) where
   step p q ps x h l m = elim (decLe (q .place) x) [
     | no n ↦ near p q ps x (omega arith)
     | yes n ↦ let z : q .place ≡ x = omega arith in
-      far p q ps x n ∙ subst (λ (x : ℕ). onward way q ps x ≡ line way p q x) z (start q ps (rest p (q ∷ ps) h) ∙ sym (line-at-second way p q (rise p q ps h)))
+        far p q ps x n ∙ subst (λ (x : ℕ). onward way q ps x ≡ line way p q x) z (start q ps (rest p (q ∷ ps) h) ∙ sym (line-at-second way p q (rise p q ps h)))
   ]
 
   -- The points before p do not matter from p on.
@@ -89,8 +89,8 @@ module _ (way : Way) where
   table-is ps h = record {
     at = λ a z p e. subst (λ (l : List Point). table way l (p .place) ≡ p .value) e (enter a z p (p .place) (o a (p ∷ z) e) (omega arith) ∙ start p z (from a (p ∷ z) (o a (p ∷ z) e)));
     amid = λ a z p q e x l m. let k = from a (p ∷ q ∷ z) (o a (p ∷ q ∷ z) e) in
-      subst (λ (l : List Point). Rounded way (span p q x) (gap p q) (table way l x)) e
-      (subst (λ (v : ℕ). Rounded way (span p q x) (gap p q) v) (sym (enter a (q ∷ z) p x (o a (p ∷ q ∷ z) e) l ∙ step p q z x k l m)) (line-rounded way p q x (rise p q z k)));
+        subst (λ (l : List Point). Rounded way (span p q x) (gap p q) (table way l x)) e
+        (subst (λ (v : ℕ). Rounded way (span p q x) (gap p q) v) (sym (enter a (q ∷ z) p x (o a (p ∷ q ∷ z) e) l ∙ step p q z x k l m)) (line-rounded way p q x (rise p q z k)));
     before = λ z p e x l. subst (λ (l : List Point). table way l x ≡ p .value) e (first z p x (o [] (p ∷ z) e) l);
     beyond = λ a p e x l. subst (λ (l : List Point). table way l x ≡ p .value) e (last a p x (o a (p ∷ []) e) l);
   }
@@ -136,7 +136,7 @@ module _ (way : Way) (low high : ℕ) where
       elim (decLe (q .place) x) [
         | yes n ↦ subst Inside (sym (far way p q ps x n)) (onward-within q ps (rest p (q ∷ ps) h) (a .1) x n)
         | no n ↦ let m : x ≤ q .place = omega arith in subst Inside (sym (near way p q ps x (omega arith)))
-          (line-from way p q (rise p q ps h) x l m low (a .0 .0) (b .0 .0), line-to way p q (rise p q ps h) x l m high (a .0 .1) (b .0 .1))
+            (line-from way p q (rise p q ps h) x l m low (a .0 .0) (b .0 .0), line-to way p q (rise p q ps h) x l m high (a .0 .1) (b .0 .1))
       ]
 
   pub table-within : (p : Point) (ps : List Point) → inOrder (p ∷ ps) ≡ true → valuesWithin low high (p ∷ ps) ≡ true → (x : ℕ) → (low ≤ table way (p ∷ ps) x) × (table way (p ∷ ps) x ≤ high)
