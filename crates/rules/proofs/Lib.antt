@@ -6,3 +6,4 @@ pub mod Tables
 pub mod Rows
 pub mod Searches
 pub mod Roll
+pub mod Ranges

@@ -4,6 +4,7 @@ use mathlib.Core.Bool.{true}
 use mathlib.Core.List.{List, [], _∷_, _++_, map}
 use Prim.Native.Nat.{ℕ, _≤_}
 use borrow.Author.Tests.{lt-ltb}
+use Rattle.rules.specs.Numbers.{full}
 use Rattle.rules.specs.Rounding.{down, Point, point}
 use Rattle.rules.specs.Blocks.{Row}
 use Rattle.rules.specs.Layout.{Rising}
@@ -33,6 +34,10 @@ module _ (f : Row → ℕ) where
       map-append [] = refl
       map-append (b ∷ a) = ap (λ (l : List Point). point (b .mass) (f b) ∷ l) (map-append a)
 
-  pub between-within : (low high m : ℕ) (r : Row) (rows : List Row) → Rising m (r ∷ rows) → valuesWithin low high (column (r ∷ rows)) ≡ true → (w : ℕ) → (low ≤ between (r ∷ rows) f w) × (between (r ∷ rows) f w ≤ high)
+  pub between-within : (low high m : ℕ) (rows : List Row) → full rows ≡ true → Rising m rows → valuesWithin low high (column rows) ≡ true → (w : ℕ) → (low ≤ between rows f w) × (between rows f w ≤ high)
   unfolding between
-  between-within low high m r rows h v w = table-within down low high (point (r .mass) (f r)) (column rows) (rows-in-order m (r ∷ rows) h) v w
+  between-within low high m rows e h v w = table-within down low high (column rows) (map-full rows e) (rows-in-order m rows h) v w
+    where
+      map-full : (rows : List Row) → full rows ≡ true → full (column rows) ≡ true
+      map-full [] e = e
+      map-full (r ∷ rows) e = refl

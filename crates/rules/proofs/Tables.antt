@@ -8,6 +8,7 @@ use native.Mathlib.Nat.{max-eq-left, max-eq-right}
 use native.Mathlib.Decide.{decLe}
 use lib.Dec.{ltb, leb}
 use borrow.Author.Tests.{ltb-true, leb-true, lt-ltb, le-ltb}
+use Rattle.rules.specs.Numbers.{full}
 use Rattle.rules.specs.Rounding.{Way, up, Point, gap, span, line, onward, table}
 use Rattle.rules.specs.Roll.{X1, X2, K, S}
 use Rattle.rules.proofs.Rounding.{Rounded, rounded-unique}
@@ -139,9 +140,13 @@ module _ (way : Way) (low high : ℕ) where
             (line-from way p q (rise p q ps h) x l m low (a .0 .0) (b .0 .0), line-to way p q (rise p q ps h) x l m high (a .0 .1) (b .0 .1))
       ]
 
-  pub table-within : (p : Point) (ps : List Point) → inOrder (p ∷ ps) ≡ true → valuesWithin low high (p ∷ ps) ≡ true → (x : ℕ) → (low ≤ table way (p ∷ ps) x) × (table way (p ∷ ps) x ≤ high)
+  pub table-within : (ps : List Point) → full ps ≡ true → inOrder ps ≡ true → valuesWithin low high ps ≡ true → (x : ℕ) → (low ≤ table way ps x) × (table way ps x ≤ high)
   unfolding table
-  table-within p ps h v x = onward-within p ps h v (max x (p .place)) (omega arith)
+  table-within [] f h v x = absurd (never f)
+    where
+      never : _≡_ {A = Bool} false true → ⊥
+      never e = let z : _≡_ {A = ℕ} 0 1 = cc in omega arith
+  table-within (p ∷ ps) f h v x = onward-within p ps h v (max x (p .place)) (omega arith)
 
 -- ---- the tables of criterion 8
 pub X1-is : Linear up X1 (table up X1)
