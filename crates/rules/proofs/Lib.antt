@@ -11,3 +11,11 @@ pub mod Whole
 pub mod Refused
 pub mod Fuel
 pub mod Sums
+pub mod Signed
+pub mod Rounding
+pub mod StraightLine
+pub mod Tables
+pub mod Rows
+pub mod Searches
+pub mod Roll
+pub mod Ranges
