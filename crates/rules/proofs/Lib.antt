@@ -16,3 +16,11 @@ pub mod Ways
 pub mod FrameWays
 pub mod Inside
 pub mod Overrun
+pub mod Signed
+pub mod Rounding
+pub mod StraightLine
+pub mod Tables
+pub mod Rows
+pub mod Searches
+pub mod Roll
+pub mod Ranges
