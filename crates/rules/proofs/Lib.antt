@@ -24,3 +24,4 @@ pub mod Rows
 pub mod Searches
 pub mod Roll
 pub mod Ranges
+pub mod Drawing

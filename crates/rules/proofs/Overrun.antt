@@ -60,9 +60,9 @@ module _ (ln : ℕ) where
       let M = length-append (spell F) (block groupTag body ++ rest) in
       let N = length-block groupTag body rest in
       behind-refused F d n (n - leaves F) at (at + length (spell F)) (block groupTag body ++ rest) P refl refl l (
-        entries-block ln d (n - leaves F) (at + length (spell F)) groupTag body rest (omega arith)
-        ∙ bind-got _ (group-passes ln d (n - leaves F) (at + length (spell F)) body h (full-some body (meets-some m (v .0))))
-        ∙ bind-refused _ (meets-overrun m (omega arith) v))
+      entries-block ln d (n - leaves F) (at + length (spell F)) groupTag body rest (omega arith)
+      ∙ bind-got _ (group-passes ln d (n - leaves F) (at + length (spell F)) body h (full-some body (meets-some m (v .0))))
+      ∙ bind-refused _ (meets-overrun m (omega arith) v))
 
 -- ---- inside the condition
 weather-overrun : (ln : ℕ) (body : List ℕ) → Overruns body → inside ln body ≡ refused 2 ln 3
