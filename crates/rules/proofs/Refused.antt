@@ -39,9 +39,12 @@ unfolding _>>_ test
 test-refusal true n l o k a f = f
 test-refusal false n l o k a f = plain n l o a
 
--- A number from 1 to 6; at this line, and no offset before `at`; at no line before ln.
+-- A number from 1 to 6; then also: at this line and offset; at this line and no offset before; at no line before.
 abbrev pub Numbered : ℕ → ℕ → ℕ → Type 0
 Numbered n l o = (1 ≤ n) × (n ≤ 6)
+
+abbrev pub At : ℕ → ℕ → ℕ → ℕ → ℕ → Type 0
+At ln at n l o = Numbered n l o × (l ≡ ln) × (o ≡ at)
 
 abbrev pub From : ℕ → ℕ → ℕ → ℕ → ℕ → Type 0
 From ln at n l o = Numbered n l o × (l ≡ ln) × (at ≤ o)
@@ -79,32 +82,32 @@ lines-refusal ln t = decode-refusal (split t .1) ln (split t .0)
 
 -- ---- blocks and entries
 module _ (ln : ℕ) where
-  header-refusal : (at : ℕ) (s : List ℕ) → Refusal (From ln at) (header ln at s)
+  pub header-refusal : (at : ℕ) (s : List ℕ) → Refusal (At ln at) (header ln at s)
   unfolding header
   header-refusal at [] = plain 2 ln at (omega arith)
   header-refusal at (t ∷ []) = plain 2 ln at (omega arith)
   header-refusal at (t ∷ a ∷ []) = plain 2 ln at (omega arith)
   header-refusal at (t ∷ a ∷ b ∷ s) = test-refusal _ _ _ _ _ (omega arith) given
 
-  fixed-refusal : {A : Type 0} (L : Layout A) (room : Bool) (at : ℕ) (body : List ℕ) → Refusal (From ln at) (fixed ln L room at body)
+  fixed-refusal : {A : Type 0} (L : Layout A) (room : Bool) (at : ℕ) (body : List ℕ) → Refusal (At ln at) (fixed ln L room at body)
   unfolding fixed
   fixed-refusal L room at body = test-refusal _ _ _ _ _ (omega arith) (test-refusal _ _ _ _ _ (omega arith) (test-refusal _ _ _ _ _ (omega arith) given))
 
-  tagOf-refusal : (at t : ℕ) → Refusal (From ln at) (tagOf ln at t)
+  tagOf-refusal : (at t : ℕ) → Refusal (At ln at) (tagOf ln at t)
   unfolding tagOf
   tagOf-refusal at t = go (eqb t (entry item .tag)) (eqb t (entry tank .tag)) (eqb t groupTag)
     where
-      go : (a b c : Bool) → Refusal (From ln at) (cond a (got (load item)) (cond b (got (load tank)) (cond c (got nested) (refused 4 ln at))))
+      go : (a b c : Bool) → Refusal (At ln at) (cond a (got (load item)) (cond b (got (load tank)) (cond c (got nested) (refused 4 ln at))))
       go true b c = given
       go false true c = given
       go false false true = given
       go false false false = plain 4 ln at (omega arith)
 
-  block-refusal : (d n at t : ℕ) (body : List ℕ) → Refusal (From ln at) (blockAt ln d n at t body)
+  pub block-refusal : (d n at t : ℕ) (body : List ℕ) → Refusal (At ln at) (blockAt ln d n at t body)
   unfolding blockAt begun
   block-refusal d n at t body = bind-refusal _ _ (tagOf-refusal at t) (λ x ex. go x)
     where
-      go : (x : Tag) → Refusal (From ln at) (begun ln d n at body x)
+      go : (x : Tag) → Refusal (At ln at) (begun ln d n at body x)
       go (load k) = bind-refusal _ _ (fixed-refusal (entry k) (ltb 0 n) at body) (λ v ev. given)
       go nested = test-refusal _ _ _ _ _ (omega arith) (test-refusal _ _ _ _ _ (omega arith) given)
 
@@ -129,7 +132,7 @@ module _ (ln : ℕ) where
   walk-refusal zero d n at s l = absurd (omega arith)
   walk-refusal (suc f) d n at [] l = given
   walk-refusal (suc f) d n at (x ∷ s) l =
-      bind-refusal _ _ (header-refusal at (x ∷ s)) (λ h eh. bind-refusal _ _ (block-refusal d n at (h .tag) (h .body)) (λ b eb.
+      bind-refusal _ _ (weaker (λ n l o x. omega arith) (header-refusal at (x ∷ s))) (λ h eh. bind-refusal _ _ (weaker (λ n l o x. omega arith) (block-refusal d n at (h .tag) (h .body))) (λ b eb.
       let p = header-less ln at (x ∷ s) h eh in
       step-refusal (walk ln f) f (walk-refusal f) d n at h (omega arith) (omega arith) b))
 
@@ -138,7 +141,7 @@ module _ (ln : ℕ) where
   entries-refusal d n at s = walk-refusal (suc (length s)) d n at s (omega arith)
 
   -- ---- the condition and the frames
-  pub weather-refusal : (t : ℕ) (body : List ℕ) → Refusal (From ln 3) (weatherAt ln t body)
+  pub weather-refusal : (t : ℕ) (body : List ℕ) → Refusal (At ln 3) (weatherAt ln t body)
   unfolding weatherAt
   weather-refusal t body = test-refusal _ _ _ _ _ (omega arith) (fixed-refusal weather true 3 body)
 
@@ -149,33 +152,41 @@ module _ (ln : ℕ) where
       bind-refusal _ _ (weaker (λ n l o x. omega arith) (weather-refusal (h .tag) (h .body))) (λ v ev.
       bind-refusal _ _ (test-refusal _ _ _ _ _ (omega arith) (weaker (λ n l o x. omega arith) (entries-refusal mostDepth mostEntries _ (h .rest)))) (λ w ew. given))))
 
-  fixedIn-refusal : {A : Type 0} (L : Layout A) (h : Head) → Refusal (From ln 0) (fixedIn ln L h)
+  fixedIn-refusal : {A : Type 0} (L : Layout A) (h : Head) → Refusal (At ln 0) (fixedIn ln L h)
   unfolding fixedIn
   fixedIn-refusal L h = test-refusal _ _ _ _ _ (omega arith) (fixed-refusal L true 0 (h .body))
 
-  frameOf-refusal : (t : ℕ) → Refusal (From ln 0) (frameOf ln t)
+  pub frameOf-refusal : (t : ℕ) → Refusal (At ln 0) (frameOf ln t)
   unfolding frameOf
   frameOf-refusal t = go (eqb t (row .tag)) (eqb t conditionTag)
     where
-      go : (a b : Bool) → Refusal (From ln 0) (cond a (got aRow) (cond b (got aCondition) (refused 4 ln 0)))
+      go : (a b : Bool) → Refusal (At ln 0) (cond a (got aRow) (cond b (got aCondition) (refused 4 ln 0)))
       go true b = given
       go false true = given
       go false false = plain 4 ln 0 (omega arith)
 
+  pub row-refusal : (p : ℕ) (h : Head) → Refusal (At ln 0) (rowIn ln p h)
+  unfolding rowIn
+  row-refusal p h = bind-refusal _ _ (fixedIn-refusal row h) (λ v ev. test-refusal _ _ _ _ _ (omega arith) given)
+
+  condition-refusal : (h : Head) → Refusal (From ln 0) (conditionIn ln h)
+  unfolding conditionIn
+  condition-refusal h = test-refusal _ _ _ _ _ (omega arith) (test-refusal _ _ _ _ _ (omega arith) (inside-refusal (h .body)))
+
   found-refusal : (k p : ℕ) (h : Head) (t : Frame) → Refusal (From ln 0) (found ln k p h t)
-  unfolding found rowIn conditionIn
-  found-refusal k p h aRow = test-refusal _ _ _ _ _ (omega arith) (bind-refusal _ _ (bind-refusal _ _ (fixedIn-refusal row h) (λ v ev. test-refusal _ _ _ _ _ (omega arith) given)) (λ v ev. given))
-  found-refusal k p h aCondition = test-refusal _ _ _ _ _ (omega arith) (bind-refusal _ _ (test-refusal _ _ _ _ _ (omega arith) (test-refusal _ _ _ _ _ (omega arith) (inside-refusal (h .body)))) (λ c ec. given))
+  unfolding found
+  found-refusal k p h aRow = test-refusal _ _ _ _ _ (omega arith) (bind-refusal _ _ (weaker (λ n l o x. omega arith) (row-refusal p h)) (λ v ev. given))
+  found-refusal k p h aCondition = test-refusal _ _ _ _ _ (omega arith) (bind-refusal _ _ (condition-refusal h) (λ c ec. given))
 
   pub frameAt-refusal : (k p : ℕ) (l : List ℕ) → Refusal (From ln 0) (frameAt ln k p l)
   unfolding frameAt
-  frameAt-refusal k p l = bind-refusal _ _ (header-refusal 0 l) (λ h eh. bind-refusal _ _ (frameOf-refusal (h .tag)) (λ t et. found-refusal k p h t))
+  frameAt-refusal k p l = bind-refusal _ _ (weaker (λ n l o x. omega arith) (header-refusal 0 l)) (λ h eh. bind-refusal _ _ (weaker (λ n l o x. omega arith) (frameOf-refusal (h .tag))) (λ t et. found-refusal k p h t))
 
-  pub shipFrame-refusal : (l : List ℕ) → Refusal (From ln 0) (shipFrame ln l)
+  pub shipFrame-refusal : (l : List ℕ) → Refusal (At ln 0) (shipFrame ln l)
   unfolding shipFrame
   shipFrame-refusal l = bind-refusal _ _ (header-refusal 0 l) (λ h eh. test-refusal _ _ _ _ _ (omega arith) (fixedIn-refusal ship h))
 
-  pub closed-refusal : (ls : List (List ℕ)) → Refusal (From ln 0) (closed ln ls)
+  pub closed-refusal : (ls : List (List ℕ)) → Refusal (At ln 0) (closed ln ls)
   unfolding closed
   closed-refusal [] = given
   closed-refusal (l ∷ ls) = bind-refusal _ _ (header-refusal 0 l) (λ h eh. plain 4 ln 0 (omega arith))
