@@ -25,3 +25,5 @@ pub mod Searches
 pub mod Roll
 pub mod Ranges
 pub mod Drawing
+pub mod Alike
+pub mod FirstFault
