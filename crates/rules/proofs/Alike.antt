@@ -4,7 +4,7 @@ use mathlib.Core.Bool.{Bool, true, false}
 use mathlib.Core.List.{List, [], _∷_}
 use Prim.Native.Nat.{ℕ, _+_, _-_, _*_, _≤_, _<_}
 use native.Mathlib.Omega.{arith}
-use lib.ListN.{length, take, drop, getD, length-take, length-drop, List·getD-eq-default}
+use lib.ListN.{length, drop, getD, length-take, length-drop, List·getD-eq-default}
 use lib.Seq.{getD-take, getD-drop, ext-getD}
 use lib.Dec.{ltb, leb}
 use borrow.Author.Tests.{ltb-true, ltb-false, leb-true, leb-false}
@@ -13,7 +13,7 @@ use Rattle.rules.specs.Answers.{refused, got}
 use Rattle.rules.specs.Walk.{header}
 use Rattle.rules.specs.Parts.{be2, part, headAt}
 use Rattle.rules.specs.Places.{endOf, SameBefore}
-use Rattle.rules.proofs.Parts.{header-overrun, header-block}
+use Rattle.rules.proofs.Parts.{length-part, header-overrun, header-block}
 
 -- Two lists of one length have something in them, or not.
 same-full : (s s′ : List ℕ) → length s ≡ length s′ → full s ≡ full s′
@@ -21,6 +21,10 @@ same-full [] [] e = refl
 same-full [] (x ∷ s′) e = absurd (omega arith)
 same-full (x ∷ s) [] e = absurd (omega arith)
 same-full (x ∷ s) (y ∷ s′) e = refl
+
+-- What is the same before its end is the same.
+same-whole : {m : ℕ} {s s′ : List ℕ} → SameBefore m s s′ → length s ≤ m → s ≡ s′
+same-whole {s = s} {s′ = s′} A l = ext-getD 0 s s′ (A .long) (λ i h. A .bytes i (omega arith))
 
 -- ---- parts
 -- A byte of a part is one of the whole, or is not there.
@@ -55,16 +59,21 @@ module _ {m : ℕ} {s s′ : List ℕ} (A : SameBefore m s s′) where
   pub part-full : (a e : ℕ) → full (part a e s) ≡ full (part a e s′)
   part-full a e = same-full (part a e s) (part a e s′) (part-long a e)
 
-  pub same-whole : length s ≤ m → s ≡ s′
-  same-whole l = ext-getD 0 s s′ (A .long) (λ i h. A .bytes i (omega arith))
-
   -- ---- heads
-  module _ (h : 3 ≤ m) where
-    same-length : be2 s 1 ≡ be2 s′ 1
-    same-length = ap₂ (λ x y. x * 256 + y) (A .bytes 1 (omega arith)) (A .bytes 2 (omega arith))
+  -- The bodies of the two first blocks are the same, where they end before m.
+  pub same-body : 3 + be2 s 1 ≤ length s → 3 + be2 s 1 ≤ m → part 3 (3 + be2 s 1) s ≡ part 3 (3 + be2 s 1) s′
+  same-body l h = same-whole (same-part 3 (3 + be2 s 1) (be2 s 1) h) (rw (length-part s 3 (3 + be2 s 1) l) (omega arith))
 
-    pub same-overrun : (ln at : ℕ) → length s < 3 + be2 s 1 → header ln at s′ ≡ refused 2 ln at
-    same-overrun ln at v = header-overrun s′ ln at (omega (arith, A .long, same-length))
+  -- Both heads are refused, or both are read, with one tag and one length.
+  pub same-heads : {C : Type 0} (ln at : ℕ) → 3 ≤ m → (header ln at s ≡ refused 2 ln at → header ln at s′ ≡ refused 2 ln at → C)
+      → (3 + be2 s 1 ≤ length s → header ln at s ≡ got (headAt (getD s 0 0) (be2 s 1) s) → header ln at s′ ≡ got (headAt (getD s 0 0) (be2 s 1) s′) → C) → C
+  same-heads {C} ln at h over in-both = go (leb (3 + be2 s 1) (length s)) refl
+    where
+      same-length : be2 s 1 ≡ be2 s′ 1
+      same-length = ap₂ (λ x y. x * 256 + y) (A .bytes 1 (omega arith)) (A .bytes 2 (omega arith))
 
-    pub same-head : (ln at : ℕ) → 3 + be2 s 1 ≤ length s → header ln at s′ ≡ got (headAt (getD s 0 0) (be2 s 1) s′)
-    same-head ln at l = header-block s′ ln at (be2 s 1) same-length (omega (arith, A .long)) ∙ ap (λ t. got (headAt t (be2 s 1) s′)) (sym (A .bytes 0 (omega arith)))
+      go : (c : Bool) → leb (3 + be2 s 1) (length s) ≡ c → C
+      go false p = let v = leb-false _ _ p in over (header-overrun s ln at v) (header-overrun s′ ln at (omega (arith, A .long, same-length)))
+      go true p =
+          let l = leb-true _ _ p in
+          in-both l (header-block s ln at (be2 s 1) refl l) (header-block s′ ln at (be2 s 1) same-length (omega (arith, A .long)) ∙ ap (λ t. got (headAt t (be2 s 1) s′)) (sym (A .bytes 0 (omega arith))))

@@ -26,6 +26,12 @@ unfolding _>>=_
 bind-last (refused n′ l′ o′) f e = cc
 bind-last (got a) f e = refused-got (sym e)
 
+-- A refusal at another offset is not this test's.
+pub test-passed : {B : Type 0} (c : Bool) (n l o : ℕ) (k : Ans B) {n′ l′ o′ : ℕ} → (o ≡ o′ → ⊥) → (test c n l o >> k) ≡ refused n′ l′ o′ → (c ≡ true) × (k ≡ refused n′ l′ o′)
+unfolding _>>_ test
+test-passed true n l o k h e = (refl, e)
+test-passed false n l o k {o′ = o′} h e = absurd (h (let z : o ≡ o′ = cc in z))
+
 -- ---- forwards
 pub bind-got : {A B : Type 0} {m : Ans A} {a : A} (k : A → Ans B) → m ≡ got a → (m >>= k) ≡ k a
 unfolding _>>=_

@@ -2,100 +2,118 @@
 use mathlib.Core.Path.{_≡_, refl, ap, sym, _∙_}
 use mathlib.Core.Bool.{Bool, true, false}
 use mathlib.Core.List.{List, [], _∷_, _++_}
-use Prim.Native.Nat.{ℕ, zero, suc, _+_, _-_, min, _≤_, _<_}
+use Prim.Native.Nat.{ℕ, zero, suc, _+_, _-_, _≤_, _<_}
 use native.Mathlib.Omega.{arith}
-use lib.ListN.{length, drop, getD, length-take, length-drop}
-use lib.Dec.{leb}
-use borrow.Author.Tests.{leb-true, leb-false}
-use Rattle.rules.specs.Numbers.{full}
-use Rattle.rules.specs.Layout.{Entries, leaves}
-use Rattle.rules.specs.Answers.{Ans, refused, got}
-use Rattle.rules.specs.Walk.{header, Block, one, nest, blockAt, entries}
+use lib.ListN.{length, getD}
+use lib.Dec.{ltb, leb, eqb}
+use borrow.Author.Tests.{ltb-true, ltb-false}
+use Rattle.rules.specs.Blocks.{Layout, ship, row, conditionTag, Weather}
+use Rattle.rules.specs.Layout.{Condition, mostDepth, mostEntries}
+use Rattle.rules.specs.Answers.{Ans, refused, got, test, _>>=_, _>>_}
+use Rattle.rules.specs.Walk.{Head, header, entries, weatherAt, loadAt, inside, conditionIn, fixedIn, rowIn, Frame, aRow, aCondition, frameOf, found, frameAt, shipFrame, closed}
 use Rattle.rules.specs.Parts.{be2, part, headAt}
 use Rattle.rules.specs.Places.{endOf, SameBefore}
-use Rattle.rules.proofs.Answers.{refused-got, bind-last, bind-refused}
-use Rattle.rules.proofs.Parts.{full-some, length-part, header-overrun, header-block}
-use Rattle.rules.proofs.Fuel.{entries-none}
-use Rattle.rules.proofs.Walked.{nest-inv, group-passes}
-use Rattle.rules.proofs.Ways.{entries-short, block-refused, block-entry, group-refused, group-got}
-use Rattle.rules.proofs.Refused.{block-refusal, entries-refusal}
-use Rattle.rules.proofs.Alike.{end-part, part-full, same-part, same-whole, same-overrun, same-head}
+use Rattle.rules.proofs.Answers.{refused-got, test-passed, bind-last, bind-got, bind-refused, test-got}
+use Rattle.rules.proofs.Parts.{full-length, length-part}
+use Rattle.rules.proofs.Refused.{entries-refusal, weather-refusal, inside-refusal, found-row-refusal, shipFrame-refusal, closed-refusal}
+use Rattle.rules.proofs.FrameWays.{inside-short, inside-block, frame-short, ship-short}
+use Rattle.rules.proofs.Alike.{end-part, part-full, same-part, same-body, same-heads}
+use Rattle.rules.proofs.EntryFault.{fault-entries}
 
-some-left : (ln d n at : ℕ) (s : List ℕ) {a b o : ℕ} → entries ln d n at s ≡ refused a b o → 0 < length s
-some-left ln d n at [] e = refused-got (sym e ∙ entries-none ln d n at)
-some-left ln d n at (x ∷ s) e = omega arith
-
--- ---- among entries
--- s and s′ begin at offset `at`; the block that the refusal names, at offset o, begins i bytes further on; they are the same before its end.
-module _ (ln d n at : ℕ) (s s′ : List ℕ) (m i a b o : ℕ) (A : SameBefore m s s′) (r : endOf s i ≤ m) (q : at + i ≡ o) where
-  -- The same of the entries in any part behind the first head.
-  abbrev Again : Type 0
-  Again = (d n at′ x e : ℕ) → at + x ≡ at′ → 3 ≤ x → entries ln d n at′ (part x e s) ≡ refused a b o → (x ≤ i) × (entries ln d n at′ (part x e s′) ≡ refused a b o)
-
+-- ---- inside the condition
+-- The body of A3 begins at offset 3; the named block begins i bytes further on.
+module _ (ln : ℕ) (s s′ : List ℕ) (m i a b o : ℕ) (A : SameBefore m s s′) (r : endOf s i ≤ m) (q : 3 + i ≡ o) (e : inside ln s ≡ refused a b o) where
   abbrev len : ℕ
   len = be2 s 1
 
   abbrev tag : ℕ
   tag = getD s 0 0
 
-  module _ (w : Again) (e : entries ln d n at s ≡ refused a b o) (l : 3 + len ≤ length s) where
+  body-some : 0 < length s
+  unfolding inside
+  body-some = full-length s (test-passed _ _ _ _ _ (λ z. omega arith) e .0)
+
+  module _ (l : 3 + len ≤ length s) (H : header ln 3 s ≡ got (headAt tag len s)) (H′ : header ln 3 s′ ≡ got (headAt tag len s′)) where
     l′ : 3 + len ≤ length s′
     l′ = omega (arith, A .long)
 
-    H : header ln at s ≡ got (headAt tag len s)
-    H = header-block s ln at len refl l
+    load-fault : loadAt ln (6 + len) (part (3 + len) (length s) s) ≡ refused a b o → (3 + len ≤ m) × (loadAt ln (6 + len) (part (3 + len) (length s′) s′) ≡ refused a b o)
+    unfolding loadAt
+    load-fault h =
+        let x = test-passed _ _ _ _ _ (λ z. omega arith) h in
+        let k : 3 + len ≤ i = omega (arith, entries-refusal ln mostDepth mostEntries (6 + len) (part (3 + len) (length s) s) .holds a b o (x .1) .2) in
+        let y = fault-entries ln (suc (length (part (3 + len) (length s) s))) mostDepth mostEntries (6 + len) (part (3 + len) (length s) s) (part (3 + len) (length s) s′) (m - (3 + len)) (i - (3 + len)) a b o (omega arith) (same-part A (3 + len) (length s) (m - (3 + len)) (omega arith)) (end-part (3 + len) (length s) s (i - (3 + len)) i m (omega arith) r) (omega arith) (x .1) in
+        (omega arith, rw (← (A .long)) (test-got _ _ _ _ (sym (part-full A (3 + len) (length s)) ∙ x .0) ∙ y))
 
-    H′ : header ln at s′ ≡ got (headAt tag len s′)
-    H′ = same-head A (omega arith) ln at l
-
-    same-body : 3 + len ≤ m → part 3 (3 + len) s ≡ part 3 (3 + len) s′
-    same-body h = same-whole (same-part A 3 (3 + len) len h) (rw (length-part s 3 (3 + len) l) (omega arith))
-
-    -- What is refused behind the block, is so in both.
-    rest : (d n : ℕ) → entries ln d n (at + 3 + len) (part (3 + len) (length s) s) ≡ refused a b o → (3 + len ≤ i) × (entries ln d n (at + 3 + len) (part (3 + len) (length s′) s′) ≡ refused a b o)
-    rest d n p = let x = w d n (at + 3 + len) (3 + len) (length s) (omega arith) (omega arith) p in (x .0, rw (A .long) at (x .1))
-
-    inner : blockAt ln d n at tag (part 3 (3 + len) s) ≡ got nest → blockAt ln d n at tag (part 3 (3 + len) s′) ≡ got nest → (x : Ans Entries) → entries ln (d - 1) n (at + 3) (part 3 (3 + len) s) ≡ x → entries ln d n at s′ ≡ refused a b o
-    inner p p′ (refused x y z) h = group-refused s′ ln at d n tag len H′ l′ p′ (w (d - 1) n (at + 3) 3 (3 + len) refl (omega arith) (h ∙ (sym (group-refused s ln at d n tag len H l p h) ∙ e)) .1)
-    inner p p′ (got g) h =
-        let x = rest d (n - leaves g) (bind-last _ _ (sym (group-got s ln at d n tag len H l p g h) ∙ e)) in
-        group-got s′ ln at d n tag len H′ l′ p′ g (rw (← (same-body (omega arith))) h) ∙ bind-refused _ (x .1)
-
-    block : (x : Ans Block) → blockAt ln d n at tag (part 3 (3 + len) s) ≡ x → entries ln d n at s′ ≡ refused a b o
-    block (refused x y z) p =
-        let E : refused x y z ≡ refused a b o = sym (block-refused s ln at d n tag len H l p) ∙ e in
+    weather-fault : (x : Ans Weather) → weatherAt ln tag (part 3 (3 + len) s) ≡ x → inside ln s′ ≡ refused a b o
+    weather-fault (refused x y z) p =
+        let E : _≡_ {A = Ans Condition} (refused x y z) (refused a b o) = sym (inside-block ln s tag len l H ∙ bind-refused _ p) ∙ e in
         let u : z ≡ o = cc in
-        let v : i ≡ 0 = omega (arith, block-refusal ln d n at tag (part 3 (3 + len) s) .holds x y z p .2) in
+        let v : i ≡ 0 = omega (arith, weather-refusal ln tag (part 3 (3 + len) s) .holds x y z p .2) in
         let k : endOf s 0 ≤ m = rw v at r in
-        block-refused s′ ln at d n tag len H′ l′ (rw (← (same-body (omega arith))) p) ∙ E
-    block (got (one k v)) p =
-        let x = rest d (n - 1) (bind-last _ _ (sym (block-entry s ln at d n tag len H l k v p) ∙ e)) in
-        block-entry s′ ln at d n tag len H′ l′ k v (rw (← (same-body (omega arith))) p) ∙ bind-refused _ (x .1)
-    block (got nest) p =
-        let g = nest-inv ln d n at tag (part 3 (3 + len) s) p in
-        inner p (rw (← (g .0)) (group-passes ln d n at (part 3 (3 + len) s′) (g .1) (sym (part-full A 3 (3 + len)) ∙ g .2))) _ refl
+        inside-block ln s′ tag len l′ H′ ∙ bind-refused _ (rw (← (same-body A l (omega arith))) p) ∙ E
+    weather-fault (got w) p =
+        let x = load-fault (bind-last _ _ (sym (inside-block ln s tag len l H ∙ bind-got _ p) ∙ e)) in
+        inside-block ln s′ tag len l′ H′ ∙ bind-got _ (rw (same-body A l (x .0)) at p) ∙ bind-refused _ (x .1)
 
-  first-block : Again → entries ln d n at s ≡ refused a b o → entries ln d n at s′ ≡ refused a b o
-  first-block w e = go (leb (3 + len) (length s)) refl
-    where
-      go : (c : Bool) → leb (3 + len) (length s) ≡ c → entries ln d n at s′ ≡ refused a b o
-      go true p = block w e (leb-true _ _ p) _ refl
-      go false p =
-          let g = some-left ln d n at s e in
-          let h = leb-false _ _ p in
-          entries-short s′ ln d n at (omega (arith, A .long)) (same-overrun A (omega arith) ln at h) ∙ (sym (entries-short s ln d n at g (header-overrun s ln at h)) ∙ e)
+  fault-inside : inside ln s′ ≡ refused a b o
+  fault-inside = same-heads A ln 3 (omega arith) (λ h h′. inside-short ln s′ (omega (arith, A .long, body-some)) h′ ∙ (sym (inside-short ln s body-some h) ∙ e)) (λ l h h′. weather-fault l h h′ _ refl)
 
--- The claim, of what is shorter than f.
-abbrev Claim : ℕ → ℕ → Type 0
-Claim ln f = (d n at : ℕ) (s s′ : List ℕ) (m i a b o : ℕ) → length s < f → SameBefore m s s′ → endOf s i ≤ m → at + i ≡ o → entries ln d n at s ≡ refused a b o → entries ln d n at s′ ≡ refused a b o
+-- ---- a frame
+-- A frame that ends with its line is read from its body, and from how many bytes are left.
+fixedIn-same : {X : Type 0} (ln : ℕ) (L : Layout X) (h h′ : Head) → h .body ≡ h′ .body → length (h .rest) ≡ length (h′ .rest) → fixedIn ln L h ≡ fixedIn ln L h′
+unfolding fixedIn
+fixedIn-same ln L h h′ p q = rw (p, q)
 
-of-parts : (ln f d n at : ℕ) (s s′ : List ℕ) (m i a b o : ℕ) (A : SameBefore m s s′) (r : endOf s i ≤ m) (q : at + i ≡ o) → length s < suc f → Claim ln f → Again ln d n at s s′ m i a b o A r q
-of-parts ln f d n at s s′ m i a b o A r q l C d′ n′ at′ x j p t h =
-    let g = some-left ln d′ n′ at′ (part x j s) h in
-    let k : length (part x j s) ≡ min (j - x) (length s - x) = length-take (j - x) (drop x s) ∙ ap (min (j - x)) (length-drop x s) in
-    let u : x ≤ i = omega (arith, entries-refusal ln d′ n′ at′ (part x j s) .holds a b o h .2) in
-    (u, C d′ n′ at′ (part x j s) (part x j s′) (m - x) (i - x) a b o (omega arith) (same-part A x j (m - x) (omega arith)) (end-part x j s (i - x) i m (omega arith) r) (omega arith) h)
+conditionIn-same : (ln : ℕ) (h h′ : Head) → h .body ≡ h′ .body → length (h .rest) ≡ length (h′ .rest) → conditionIn ln h ≡ conditionIn ln h′
+unfolding conditionIn
+conditionIn-same ln h h′ p q = rw (p, q)
 
-fault-entries : (ln f : ℕ) → Claim ln f
-fault-entries ln zero d n at s s′ m i a b o l A r q e = absurd (omega arith)
-fault-entries ln (suc f) d n at s s′ m i a b o l A r q e = first-block ln d n at s s′ m i a b o A r q (of-parts ln f d n at s s′ m i a b o A r q l (fault-entries ln f)) e
+found-same : (ln k p : ℕ) (h h′ : Head) (t : Frame) → h .body ≡ h′ .body → length (h .rest) ≡ length (h′ .rest) → found ln k p h t ≡ found ln k p h′ t
+unfolding found rowIn
+found-same ln k p h h′ aRow x y = rw (fixedIn-same ln row h h′ x y)
+found-same ln k p h h′ aCondition x y = rw (conditionIn-same ln h h′ x y)
+
+-- Two lines that are the same before the end of the block at offset o, which the refusal of the first names.
+module _ (ln a b o : ℕ) (l l′ : List ℕ) (A : SameBefore (endOf l o) l l′) where
+  module _ (f : 3 + be2 l 1 ≤ length l) where
+    abbrev h : Head
+    h = headAt (getD l 0 0) (be2 l 1) l
+
+    abbrev h′ : Head
+    h′ = headAt (getD l 0 0) (be2 l 1) l′
+
+    same-rest : length (h .rest) ≡ length (h′ .rest)
+    same-rest = rw (length-part l (3 + be2 l 1) (length l) (omega arith), length-part l′ (3 + be2 l 1) (length l′) (omega arith), A .long)
+
+    -- The frame itself is named.
+    own : o ≡ 0 → h .body ≡ h′ .body
+    own z = same-body A f (rw z (omega arith))
+
+    -- A block inside the condition is named.
+    found-inner : (k p : ℕ) (t : Frame) → 0 < o → found ln k p h t ≡ refused a b o → found ln k p h′ t ≡ refused a b o
+    unfolding found conditionIn
+    found-inner k p aRow z e = absurd (omega (arith, found-row-refusal ln k p h .holds a b o e .2))
+    found-inner k p aCondition z e =
+        let x = test-passed _ _ _ _ _ (λ u. omega arith) e in
+        let y = test-passed _ _ _ _ _ (λ u. omega arith) (bind-last _ _ (x .1)) in
+        let v = test-passed _ _ _ _ _ (λ u. omega arith) (y .1) in
+        let g : 3 ≤ o = inside-refusal ln (h .body) .holds a b o (v .1) .2 z in
+        let B : SameBefore (endOf l o - 3) (h .body) (h′ .body) = same-part A 3 (3 + be2 l 1) (endOf l o - 3) (omega arith) in
+        let w = fault-inside ln (h .body) (h′ .body) (endOf l o - 3) (o - 3) a b o B (end-part 3 (3 + be2 l 1) l (o - 3) o (endOf l o) (omega arith) (omega arith)) (omega arith) (v .1) in
+        test-got _ _ _ _ (x .0) ∙ bind-refused _ (test-got _ _ _ _ (rw same-rest at (y .0)) ∙ (test-got _ _ _ _ (rw (B .long) at (v .0)) ∙ w))
+
+    found-fault : (k p : ℕ) (t : Frame) → found ln k p h t ≡ refused a b o → found ln k p h′ t ≡ refused a b o
+    found-fault k p t e = go (ltb 0 o) refl
+      where
+        go : (c : Bool) → ltb 0 o ≡ c → found ln k p h′ t ≡ refused a b o
+        go true q = found-inner k p t (ltb-true _ _ q) e
+        go false q = sym (found-same ln k p h h′ t (own (omega (arith, ltb-false 0 o q))) same-rest) ∙ e
+
+    frameOf-fault : (k p : ℕ) (x : Ans Frame) → frameOf ln (getD l 0 0) ≡ x → header ln 0 l ≡ got h → header ln 0 l′ ≡ got h′ → frameAt ln k p l ≡ refused a b o → frameAt ln k p l′ ≡ refused a b o
+    unfolding frameAt
+    frameOf-fault k p (refused x y z) q H H′ e = bind-got _ H′ ∙ bind-refused _ q ∙ (sym (bind-got _ H ∙ bind-refused _ q) ∙ e)
+    frameOf-fault k p (got t) q H H′ e = bind-got _ H′ ∙ bind-got _ q ∙ found-fault k p t (sym (bind-got _ H ∙ bind-got _ q) ∙ e)
+
+  frame-fault : (k p : ℕ) → frameAt ln k p l ≡ refused a b o → frameAt ln k p l′ ≡ refused a b o
+  frame-fault k p e = same-heads A ln 0 (omega arith) (λ q q′. frame-short ln k p l′ q′ ∙ (sym (frame-short ln k p l q) ∙ e)) (λ f H H′. frameOf-fault f k p _ refl H H′ e)

@@ -26,4 +26,5 @@ pub mod Roll
 pub mod Ranges
 pub mod Drawing
 pub mod Alike
+pub mod EntryFault
 pub mod FirstFault

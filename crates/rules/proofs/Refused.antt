@@ -145,7 +145,11 @@ module _ (ln : ℕ) where
   unfolding weatherAt
   weather-refusal t body = test-refusal _ _ _ _ _ (omega arith) (fixed-refusal weather true 3 body)
 
-  inside-refusal : (body : List ℕ) → Refusal (From ln 0) (inside ln body)
+  -- Inside the condition: at its own offset, or behind its head.
+  abbrev Inner : ℕ → ℕ → ℕ → Type 0
+  Inner n l o = Numbered n l o × (l ≡ ln) × (0 < o → 3 ≤ o)
+
+  pub inside-refusal : (body : List ℕ) → Refusal Inner (inside ln body)
   unfolding inside loadAt
   inside-refusal body =
       test-refusal _ _ _ _ _ (omega arith) (bind-refusal _ _ (weaker (λ n l o x. omega arith) (header-refusal 3 body)) (λ h eh.
@@ -156,7 +160,7 @@ module _ (ln : ℕ) where
   unfolding fixedIn
   fixedIn-refusal L h = test-refusal _ _ _ _ _ (omega arith) (fixed-refusal L true 0 (h .body))
 
-  pub frameOf-refusal : (t : ℕ) → Refusal (At ln 0) (frameOf ln t)
+  frameOf-refusal : (t : ℕ) → Refusal (At ln 0) (frameOf ln t)
   unfolding frameOf
   frameOf-refusal t = go (eqb t (row .tag)) (eqb t conditionTag)
     where
@@ -165,17 +169,21 @@ module _ (ln : ℕ) where
       go false true = given
       go false false = plain 4 ln 0 (omega arith)
 
-  pub row-refusal : (p : ℕ) (h : Head) → Refusal (At ln 0) (rowIn ln p h)
+  row-refusal : (p : ℕ) (h : Head) → Refusal (At ln 0) (rowIn ln p h)
   unfolding rowIn
   row-refusal p h = bind-refusal _ _ (fixedIn-refusal row h) (λ v ev. test-refusal _ _ _ _ _ (omega arith) given)
 
+  pub found-row-refusal : (k p : ℕ) (h : Head) → Refusal (At ln 0) (found ln k p h aRow)
+  unfolding found
+  found-row-refusal k p h = test-refusal _ _ _ _ _ (omega arith) (bind-refusal _ _ (row-refusal p h) (λ v ev. given))
+
   condition-refusal : (h : Head) → Refusal (From ln 0) (conditionIn ln h)
   unfolding conditionIn
-  condition-refusal h = test-refusal _ _ _ _ _ (omega arith) (test-refusal _ _ _ _ _ (omega arith) (inside-refusal (h .body)))
+  condition-refusal h = test-refusal _ _ _ _ _ (omega arith) (test-refusal _ _ _ _ _ (omega arith) (weaker (λ n l o x. (x .0, x .1, omega arith)) (inside-refusal (h .body))))
 
   found-refusal : (k p : ℕ) (h : Head) (t : Frame) → Refusal (From ln 0) (found ln k p h t)
   unfolding found
-  found-refusal k p h aRow = test-refusal _ _ _ _ _ (omega arith) (bind-refusal _ _ (weaker (λ n l o x. omega arith) (row-refusal p h)) (λ v ev. given))
+  found-refusal k p h aRow = weaker (λ n l o x. omega arith) (found-row-refusal k p h)
   found-refusal k p h aCondition = test-refusal _ _ _ _ _ (omega arith) (bind-refusal _ _ (condition-refusal h) (λ c ec. given))
 
   pub frameAt-refusal : (k p : ℕ) (l : List ℕ) → Refusal (From ln 0) (frameAt ln k p l)
