@@ -27,4 +27,5 @@ pub mod Ranges
 pub mod Drawing
 pub mod Alike
 pub mod EntryFault
+pub mod FrameFault
 pub mod FirstFault
