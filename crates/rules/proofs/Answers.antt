@@ -20,6 +20,12 @@ unfolding _>>_ test
 test-inv true n l o k e = (refl, e)
 test-inv false n l o k e = refused-got e
 
+-- Where the first part refuses, its refusal is the whole's.
+pub bind-first : {A B : Type 0} (m : Ans A) (k : A → Ans B) {x y z n l o : ℕ} → m ≡ refused x y z → (m >>= k) ≡ refused n l o → m ≡ refused n l o
+unfolding _>>=_
+bind-first (refused x′ y′ z′) k h e = cc
+bind-first (got a) k h e = refused-got (sym h)
+
 -- What ends in `got` refuses only where its first part does.
 pub bind-last : {A B : Type 0} (m : Ans A) (f : A → B) {n l o : ℕ} → (m >>= λ a. got (f a)) ≡ refused n l o → m ≡ refused n l o
 unfolding _>>=_
