@@ -1,20 +1,18 @@
 -- 'The first fault met ends the reading': what stands behind the block that a refusal names has no say in it.
 use mathlib.Core.Path.{_≡_, refl, sym, _∙_}
 use mathlib.Core.List.{List, [], _∷_, _++_}
-use Prim.Native.Nat.{ℕ, suc, _+_, _≤_}
+use Prim.Native.Nat.{ℕ, _+_, _≤_}
 use native.Mathlib.Omega.{arith}
 use lib.ListN.{length, getD}
-use borrow.Author.Tests.{le-leb}
 use Rattle.rules.specs.Text.{text, Lines}
 use Rattle.rules.specs.Blocks.{Ship, ship, row, conditionTag}
 use Rattle.rules.specs.Layout.{mostCharacters}
 use Rattle.rules.specs.Answers.{Ans, refused, got}
 use Rattle.rules.specs.Walk.{Found, tableRow, theCondition, frameAt, shipFrame, closed, after, tail, readFrames, read}
 use Rattle.rules.specs.Places.{endOf, SameBefore}
-use Rattle.rules.proofs.Answers.{bind-first, bind-last, bind-got, bind-refused, test-got}
-use Rattle.rules.proofs.Lines.{lines-got}
+use Rattle.rules.proofs.Answers.{bind-first, bind-last, bind-got, bind-refused}
 use Rattle.rules.proofs.Frames.{row-tag, ship-tag}
-use Rattle.rules.proofs.Whole.{read-steps}
+use Rattle.rules.proofs.Whole.{read-lines}
 use Rattle.rules.proofs.Refused.{frameAt-refusal, shipFrame-refusal, closed-refusal, tail-refusal}
 use Rattle.rules.proofs.FrameFault.{frame-fault, ship-fault, closed-fault}
 
@@ -65,12 +63,8 @@ module _ (l l′ : List ℕ) (later later′ : List (List ℕ)) (a b o : ℕ) (A
       go (refused y z u) h = absurd (omega (arith, shipFrame-refusal 1 x .holds a b o (bind-first _ _ h e) .1))
       go (got v) h = bind-got _ h ∙ bind-refused _ (tail-fault front 2 0 0 (omega arith) (bind-last _ _ (sym (bind-got _ h) ∙ e)))
 
--- The walk over a text of lines within 12,000 characters.
-read-lines : (ls : List (List ℕ)) → Lines ls → length (text ls) ≤ mostCharacters → read (text ls) ≡ readFrames ls
-read-lines ls B c = read-steps (text ls) ∙ test-got _ _ _ _ (le-leb _ _ c) ∙ bind-got _ (lines-got ls 1 B)
-
-pub first-fault : (front later later′ : List (List ℕ)) (l l′ : List ℕ) (n o : ℕ) → Lines (front ++ (l ∷ later)) → length (text (front ++ (l ∷ later))) ≤ mostCharacters
+pub fault-stands : (front later later′ : List (List ℕ)) (l l′ : List ℕ) (n o : ℕ) → Lines (front ++ (l ∷ later)) → length (text (front ++ (l ∷ later))) ≤ mostCharacters
     → Lines (front ++ (l′ ∷ later′)) → length (text (front ++ (l′ ∷ later′))) ≤ mostCharacters → SameBefore (endOf l o) l l′ → (n ≡ 5 → getD l 0 0 ≡ conditionTag)
     → read (text (front ++ (l ∷ later))) ≡ refused n (1 + length front) o → read (text (front ++ (l′ ∷ later′))) ≡ refused n (1 + length front) o
-first-fault front later later′ l l′ n o B c B′ c′ A five e =
+fault-stands front later later′ l l′ n o B c B′ c′ A five e =
     read-lines _ B′ c′ ∙ frames-fault l l′ later later′ n (1 + length front) o A five front refl (sym (read-lines _ B c) ∙ e)

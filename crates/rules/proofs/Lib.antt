@@ -29,3 +29,4 @@ pub mod Alike
 pub mod EntryFault
 pub mod FrameFault
 pub mod FirstFault
+pub mod Reading
