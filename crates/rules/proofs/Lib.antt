@@ -29,4 +29,5 @@ pub mod Alike
 pub mod EntryFault
 pub mod FrameFault
 pub mod FirstFault
+pub mod BadLine
 pub mod Reading

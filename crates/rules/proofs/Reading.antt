@@ -6,7 +6,7 @@ use mathlib.Core.List.{List, _∷_, _++_}
 use Prim.Native.Nat.{ℕ, _+_, _≤_}
 use lib.ListN.{length, getD}
 use Rattle.rules.specs.Rounding.{ceil}
-use Rattle.rules.specs.Text.{text, Lines}
+use Rattle.rules.specs.Text.{LF, text, Lines}
 use Rattle.rules.specs.Blocks.{conditionTag}
 use Rattle.rules.specs.Layout.{Entries, Reading, frames, spellText, leaves, mostCharacters, Limits, Allowed}
 use Rattle.rules.specs.Answers.{refused, got}
@@ -14,7 +14,7 @@ use Rattle.rules.specs.Walk.{linesFrom, read}
 use Rattle.rules.specs.Loading.{flat, mass, moment, freeSurface, displacement, correctedKG, entriesOf}
 use Rattle.rules.specs.Leaves.{sumLeaves, ungrouped, loadedWith}
 use Rattle.rules.specs.Places.{endOf, LinesFill, SameBefore}
-use Rattle.rules.specs.Met.{Met, Overruns}
+use Rattle.rules.specs.Met.{Met, Overruns, NoLine}
 use Rattle.rules.specs.Answer.{judged}
 use Rattle.rules.proofs.Whole.{sound, lines-of-reading, reading-unique}
 use Rattle.rules.proofs.Refused.{number-of-refusal, not-both, unrefused-iff-allowed}
@@ -23,6 +23,7 @@ use Rattle.rules.proofs.Sums.{leaves-flat, displacement-leaves, correct
 use Rattle.rules.proofs.Overrun.{overrun}
 use Rattle.rules.proofs.Drawing.{drawing, drawing-refused}
 use Rattle.rules.proofs.FirstFault.{fault-stands}
+use Rattle.rules.proofs.BadLine.{bad-line}
 
 -- ---- which texts are read
 -- A text gets none of refusals 1 to 6 exactly when it is allowed.
@@ -75,10 +76,14 @@ overrun-never-read ls ln o left B l m v = not-both (text ls) 2 ln o (overrun ls 
 pub drawing-is-refused : read drawing ≡ refused 2 4 21
 drawing-is-refused = drawing-refused
 
--- A refusal depends on nothing behind the block that it names. Two texts of lines within 12,000 characters have the same lines before the one that is named; that line has the same length in both (its length is its frame's parent's)
+-- A refusal depends on nothing behind the block that it names. Two texts of lines within 12,000 characters have the same lines before the one that is named; that line has one length in both (it is its frame's parent)
 -- and the same bytes before the end of the named block; all that stands behind, in the line and in further lines, may differ: the refusal is the same.
--- Left out: 1, which is over the whole text and comes before any block; and 5 with no A3, which names no block but the text's end, and which a further line would change. Every other 5 stands in the line of an A3.
+-- Left out is 5 with no A3: it names no block but the text's end, and a further line would change it. Every other 5 stands in the line of an A3. Of 1 the next promise speaks.
 pub first-fault : (front later later′ : List (List ℕ)) (l l′ : List ℕ) (n o : ℕ) → Lines (front ++ (l ∷ later)) → length (text (front ++ (l ∷ later))) ≤ mostCharacters
     → Lines (front ++ (l′ ∷ later′)) → length (text (front ++ (l′ ∷ later′))) ≤ mostCharacters → SameBefore (endOf l o) l l′ → (n ≡ 5 → getD l 0 0 ≡ conditionTag)
     → read (text (front ++ (l ∷ later))) ≡ refused n (1 + length front) o → read (text (front ++ (l′ ∷ later′))) ≡ refused n (1 + length front) o
 first-fault front later later′ l l′ n o B c B′ c′ A five e = fault-stands front later later′ l l′ n o B c B′ c′ A five e
+
+-- Nor does 1 depend on what stands behind the line that it names, within 12,000 characters: behind lines, characters that are no line, an LF and anything are refused with 1 there.
+pub first-bad-line : (front : List (List ℕ)) (p rest : List ℕ) → Lines front → NoLine p → length (text front ++ (p ++ (LF ∷ rest))) ≤ mostCharacters → read (text front ++ (p ++ (LF ∷ rest))) ≡ refused 1 (1 + length front) 0
+first-bad-line front p rest B N l = bad-line front p rest B N l

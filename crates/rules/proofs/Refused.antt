@@ -53,17 +53,21 @@ abbrev pub NotBefore : ℕ → ℕ → ℕ → ℕ → Type 0
 NotBefore ln n l o = Numbered n l o × (ln ≤ l)
 
 -- ---- lines
+-- This line is none.
+abbrev pub NoLineAt : ℕ → ℕ → ℕ → ℕ → Type 0
+NoLineAt ln n l o = (n ≡ 1) × (l ≡ ln) × (o ≡ 0)
+
 module _ (ln : ℕ) where
-  nibble-refusal : (c : ℕ) → Refusal (NotBefore ln) (nibble ln c)
+  nibble-refusal : (c : ℕ) → Refusal (NoLineAt ln) (nibble ln c)
   unfolding nibble
   nibble-refusal c = go (leb 48 c && leb c 57) (leb 65 c && leb c 70)
     where
-      go : (a b : Bool) → Refusal (NotBefore ln) (cond a (got (c - 48)) (cond b (got (c - 55)) (refused 1 ln 0)))
+      go : (a b : Bool) → Refusal (NoLineAt ln) (cond a (got (c - 48)) (cond b (got (c - 55)) (refused 1 ln 0)))
       go true b = given
       go false true = given
       go false false = plain 1 ln 0 (omega arith)
 
-  unhex-refusal : (s : List ℕ) → Refusal (NotBefore ln) (unhex ln s)
+  pub unhex-refusal : (s : List ℕ) → Refusal (NoLineAt ln) (unhex ln s)
   unfolding unhex
   unhex-refusal [] = given
   unhex-refusal (c ∷ []) = plain 1 ln 0 (omega arith)
@@ -74,7 +78,7 @@ unfolding decode
 decode-refusal [] ln [] = given
 decode-refusal [] ln (c ∷ p) = plain 1 ln 0 (omega arith)
 decode-refusal (q ∷ ps) ln p =
-    bind-refusal _ _ (unhex-refusal ln p) (λ b eb. test-refusal _ _ _ _ _ (omega arith) (bind-refusal _ _ (weaker (λ n l o h. omega arith) (decode-refusal ps (ln + 1) q)) (λ r er. given)))
+    bind-refusal _ _ (weaker (λ n l o h. omega arith) (unhex-refusal ln p)) (λ b eb. test-refusal _ _ _ _ _ (omega arith) (bind-refusal _ _ (weaker (λ n l o h. omega arith) (decode-refusal ps (ln + 1) q)) (λ r er. given)))
 
 lines-refusal : (ln : ℕ) (t : List ℕ) → Refusal (NotBefore ln) (linesFrom ln t)
 unfolding linesFrom
