@@ -57,7 +57,7 @@ abbrev row2 : String
 row2 = "A2002200186A001130119400000189030F04970620078A08FC0A220B050BA20C5C0CCD0D48"
 
 -- The input of P1 with another condition.
-abbrev with : String → List ℕ
+abbrev pub with : String → List ℕ
 with c = lines (ship ∷ row1 ∷ row2 ∷ c ∷ [])
 
 abbrev P1 : List ℕ

@@ -11,6 +11,11 @@ pub mod Whole
 pub mod Refused
 pub mod Fuel
 pub mod Sums
+pub mod Parts
+pub mod Ways
+pub mod FrameWays
+pub mod Inside
+pub mod Overrun
 pub mod Signed
 pub mod Rounding
 pub mod StraightLine
@@ -19,3 +24,4 @@ pub mod Rows
 pub mod Searches
 pub mod Roll
 pub mod Ranges
+pub mod Drawing
