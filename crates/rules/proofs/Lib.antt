@@ -1,4 +1,3 @@
-pub mod Bench
 pub mod Signed
 pub mod Rounding
 pub mod StraightLine
@@ -7,3 +6,6 @@ pub mod Rows
 pub mod Searches
 pub mod Roll
 pub mod Ranges
+pub mod Cases
+pub mod Bench
+pub mod Slips

@@ -11,3 +11,4 @@ pub mod Criteria
 pub mod Roll
 pub mod Report
 pub mod Answer
+pub mod Ranges

@@ -1,0 +1,18 @@
+-- What holds of every ship that is judged: the ranges that the code's arithmetic rests on. No limit of document 01 is restated here.
+use mathlib.Core.Path.{_≡_}
+use mathlib.Core.Bool.{true}
+use Prim.Native.Nat.{_≤_}
+use Rattle.rules.specs.Blocks.{ok, ship, Row, row, weather}
+use Rattle.rules.specs.Loading.{greatestKG}
+use Rattle.rules.specs.Curve.{Loaded}
+
+-- What the table gives at W, as a row.
+abbrev pub rowAt : Loaded → Row
+rowAt c = record { mass = c .w; draught = c .draught; km = c .km; kn = c .kn }
+
+-- Ship and weather are within their limits, what the table gives at W is within those of a row, and KG is no more than 8 allows.
+pub record Fair (c : Loaded) : Type 0 where
+  pub hull : ok ship (c .ship) ≡ true
+  pub sky : ok weather (c .weather) ≡ true
+  pub form : ok row (rowAt c) ≡ true
+  pub centre : c .kg ≤ greatestKG
