@@ -6,6 +6,8 @@ pub mod Rows
 pub mod Searches
 pub mod Roll
 pub mod Ranges
+pub mod Divisions
+pub mod Angles
 pub mod Cases
 pub mod Bench
 pub mod Slips

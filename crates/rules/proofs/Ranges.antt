@@ -51,7 +51,7 @@ pub record Judged (c : Loaded) : Type 0 where
   pub kgTo : 10 * c .kg ≤ 15 * c .draught
   pub swift : period c < longestPeriod
 
-neither : (a b : Bool) → a || b ≡ false → (a ≡ false) × (b ≡ false)
+pub neither : (a b : Bool) → a || b ≡ false → (a ≡ false) × (b ≡ false)
 neither true b e = let z : _≡_ {A = ℕ} 0 1 = cc in absurd (omega arith)
 neither false b e = (refl, e)
 
