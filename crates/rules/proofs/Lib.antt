@@ -7,7 +7,9 @@ pub mod Searches
 pub mod Roll
 pub mod Ranges
 pub mod Divisions
+pub mod Levers
 pub mod Angles
+pub mod Edges
 pub mod Cases
 pub mod Bench
 pub mod Slips
