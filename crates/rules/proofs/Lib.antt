@@ -10,6 +10,8 @@ pub mod Divisions
 pub mod Levers
 pub mod Angles
 pub mod Edges
+pub mod Counts
+pub mod Verdicts
 pub mod Cases
 pub mod Bench
 pub mod Slips
