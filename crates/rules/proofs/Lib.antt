@@ -8,6 +8,7 @@ pub mod Roll
 pub mod Ranges
 pub mod Divisions
 pub mod Levers
+pub mod Areas
 pub mod Angles
 pub mod Edges
 pub mod Counts

@@ -126,9 +126,9 @@ pub dn-mull : (k : ℕ) (a : ℤ) → dn (pos k *ℤ a) ≡ k * dn a
 dn-mull k (pos a) = sym (mul-zero k)
 dn-mull k (negsuc a) = dn-neg (pos (k * suc a))
 
-pub abs≡ : (a : ℤ) → natAbs a ≡ up a + dn a
-abs≡ (pos n) = omega arith
-abs≡ (negsuc n) = omega arith
+pub abs-pos : (a : ℤ) → Le (pos 0) a → (natAbs a ≡ up a) × (dn a ≡ 0)
+abs-pos (pos n) h = (refl, refl)
+abs-pos (negsuc n) h = absurd (omega arith)
 
 -- A difference of two naturals, as code makes it.
 pub sub-is : (a b : ℕ) → pos a -ℤ pos b ≡ subℕ a b
