@@ -1,3 +1,15 @@
+pub mod Numbers
+pub mod Answers
+pub mod Fields
+pub mod Lines
+pub mod Heads
+pub mod Walked
+pub mod Conditions
+pub mod Frames
+pub mod Whole
+pub mod Refused
+pub mod Fuel
+pub mod Sums
 pub mod Signed
 pub mod Rounding
 pub mod StraightLine
@@ -5,8 +17,8 @@ pub mod Tables
 pub mod Rows
 pub mod Searches
 pub mod Roll
-pub mod Ranges
 pub mod Divisions
+pub mod Ranges
 pub mod Levers
 pub mod Areas
 pub mod Angles

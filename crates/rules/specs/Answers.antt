@@ -4,7 +4,6 @@ use Prim.Native.Nat.{ℕ}
 
 infixl 20 _>>=_
 infixl 20 _>>_
-
 pub data Ans (A : Type 0) : Type 0 where
   refused : (number line offset : ℕ) → Ans A
   got : A → Ans A

@@ -1,4 +1,102 @@
-//! stub
-pub struct Corpus { seed: u64, small: bool }
-impl Corpus { pub fn new(seed: u64, small: bool) -> Corpus { Corpus { seed, small } }
- pub fn text(&self, number: u64) -> Vec<u8> { let _ = (self.seed, self.small); number.to_string().into_bytes() } }
+//! The corpus: first every systematic case in order, then texts by chance.
+//! A text depends on the seed and its own number only.
+
+mod bounds;
+mod chance;
+mod characters;
+mod dice;
+mod draft;
+mod edges;
+mod faults;
+mod load;
+mod order;
+mod rolls;
+mod rows;
+mod sizes;
+mod solve;
+mod vessel;
+mod winds;
+
+#[cfg(test)]
+mod tests;
+
+use dice::Dice;
+
+type Make = Box<dyn Fn(&mut Dice) -> Vec<u8>>;
+
+/// A systematic case: its name, how its text is made, and whether the text
+/// is a long one that a small corpus goes without.
+pub struct Case {
+    name: String,
+    make: Make,
+    long: bool,
+}
+
+/// The list that each part of the corpus adds its cases to.
+#[derive(Default)]
+pub struct Cases {
+    list: Vec<Case>,
+}
+
+impl Cases {
+    fn add(&mut self, name: impl Into<String>, make: impl Fn(&mut Dice) -> Vec<u8> + 'static) {
+        self.list.push(Case {
+            name: name.into(),
+            make: Box::new(make),
+            long: false,
+        });
+    }
+
+    fn add_long(&mut self, name: impl Into<String>, make: impl Fn(&mut Dice) -> Vec<u8> + 'static) {
+        self.list.push(Case {
+            name: name.into(),
+            make: Box::new(make),
+            long: true,
+        });
+    }
+}
+
+pub struct Corpus {
+    seed: u64,
+    small: bool,
+    cases: Vec<Case>,
+}
+
+impl Corpus {
+    /// With `small`, some long systematic cases are left out and the texts by
+    /// chance stay short.
+    pub fn new(seed: u64, small: bool) -> Corpus {
+        let mut cases = Cases::default();
+        bounds::add(&mut cases);
+        edges::add(&mut cases);
+        winds::add(&mut cases);
+        rolls::add(&mut cases);
+        rows::add(&mut cases);
+        order::add(&mut cases);
+        faults::add(&mut cases);
+        characters::add(&mut cases);
+        sizes::add(&mut cases);
+        cases.list.retain(|case| !(small && case.long));
+        Corpus {
+            seed,
+            small,
+            cases: cases.list,
+        }
+    }
+
+    /// The names of the systematic cases, in the order of their texts.
+    pub fn names(&self) -> impl Iterator<Item = &str> {
+        self.cases.iter().map(|case| case.name.as_str())
+    }
+
+    pub fn text(&self, number: u64) -> Vec<u8> {
+        let mut dice = Dice::new(self.seed, number);
+        match usize::try_from(number)
+            .ok()
+            .and_then(|number| self.cases.get(number))
+        {
+            Some(case) => (case.make)(&mut dice),
+            None => chance::text(&mut dice, self.small),
+        }
+    }
+}
