@@ -46,29 +46,29 @@ entry-201 ln d at body k h = rw h
 
 -- 'At most 4,096 bytes.'
 module _ (ln : ℕ) (h : Head) (alone : length (h .rest) ≡ 0) where
-  pub bytes-4096 : length (h .body) ≤ 4_096 → conditionIn ln h ≡ inside ln (h .body)
-  unfolding conditionIn test _>>=_ _>>_
-  bytes-4096 l = rw (alone, le-leb (length (h .body)) 4_096 l)
-
   pub bytes-4097 : 4_096 < length (h .body) → conditionIn ln h ≡ refused 5 ln 0
   unfolding conditionIn test _>>=_ _>>_
   bytes-4097 l = rw (alone, lt-leb (length (h .body)) 4_096 l)
 
--- 'At most 12,000 characters.'
-pub characters-12000 : (t : List ℕ) → length t ≤ 12_000 → read t ≡ (linesFrom 1 t >>= readFrames)
-unfolding read test _>>=_ _>>_
-characters-12000 t l = rw (le-leb (length t) 12_000 l)
+  pub bytes-4096 : length (h .body) ≤ 4_096 → conditionIn ln h ≡ inside ln (h .body)
+  unfolding conditionIn test _>>=_ _>>_
+  bytes-4096 l = rw (alone, le-leb (length (h .body)) 4_096 l)
 
+-- 'At most 12,000 characters.'
 pub characters-12001 : (t : List ℕ) → 12_000 < length t → read t ≡ refused 1 0 0
 unfolding read test _>>=_ _>>_
 characters-12001 t l = rw (lt-leb (length t) 12_000 l)
 
+pub characters-12000 : (t : List ℕ) → length t ≤ 12_000 → read t ≡ (linesFrom 1 t >>= readFrames)
+unfolding read test _>>=_ _>>_
+characters-12000 t l = rw (le-leb (length t) 12_000 l)
+
 -- 'Corrected KG above 60,000.'
 module _ (r : Reading) (floats : inTable (r .rows) (displacement (entriesOf r)) ≡ true) where
-  pub kg-60000 : correctedKG (entriesOf r) ≤ 60_000 → weighed r ≡ got tt
-  unfolding weighed test _>>=_ _>>_
-  kg-60000 l = rw (floats, le-leb (correctedKG (entriesOf r)) 60_000 l)
-
   pub kg-60001 : 60_000 < correctedKG (entriesOf r) → weighed r ≡ refused 8 0 0
   unfolding weighed test _>>=_ _>>_
   kg-60001 l = rw (floats, lt-leb (correctedKG (entriesOf r)) 60_000 l)
+
+  pub kg-60000 : correctedKG (entriesOf r) ≤ 60_000 → weighed r ≡ got tt
+  unfolding weighed test _>>=_ _>>_
+  kg-60000 l = rw (floats, le-leb (correctedKG (entriesOf r)) 60_000 l)
