@@ -4,8 +4,8 @@ use mathlib.Core.Path.{_≡_, refl, sym, _∙_, ap}
 use mathlib.Core.List.{List, [], _∷_, _++_, map, append-assoc, append-nil}
 use native.Mathlib.Numerals.{add-one}
 use native.Mathlib.Omega.{arith}
-use lib.ListN.{length, take, drop, getD, length-append, length-drop}
-use lib.Seq.{take-at, drop-at, drop-drop, take-suc, take-all, length-take-le}
+use lib.ListN.{length, take, drop, getD, set, length-append, length-drop}
+use lib.Seq.{take-at, drop-at, set-at, drop-cons, append-snoc, drop-drop, take-suc, take-all, length-take-le}
 use borrow.Rule.Slice.PartMut.{putMid}
 use Rattle.rules.specs.Text.{hex}
 use Rattle.rules.specs.Report.{concat}
@@ -15,6 +15,10 @@ pub lent : (p ys l : List ℕ) (n e : ℕ) → length p ≡ n → n ≤ e → pu
 lent p ys l n e h k =
     let j : n + (e - n) ≡ e = omega arith in
     rw (take-at p (drop n l) n h, drop-at p (drop n l) n h, drop-drop (e - n) n l, j) (sym (append-assoc p ys (drop e l)))
+
+-- The same of a single byte that is stored.
+pub stored : (p l : List ℕ) (n b : ℕ) → length p ≡ n → n < length l → set (p ++ drop n l) n b ≡ (p ++ (b ∷ [])) ++ drop (suc n) l
+stored p l n b e h = rw (drop-cons l n 0 h) (set-at p (getD l n 0) (drop (suc n) l) b n e ∙ sym (append-snoc p b (drop (suc n) l)))
 
 concat-snoc : {A : Type 0} (f : A → List ℕ) (xs : List A) (x : A) → concat (map f (xs ++ (x ∷ []))) ≡ concat (map f xs) ++ f x
 unfolding concat

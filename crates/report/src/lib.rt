@@ -3,37 +3,48 @@ mod characters;
 mod numbers;
 
 ghost use mathlib.Core.Path.{_≡_};
-ghost use mathlib.Core.List.{_++_};
+ghost use mathlib.Core.List.{_∷_, _++_};
 ghost use Prim.Native.Nat.{_<_, _≤_};
 ghost use lib.ListN.{length, drop};
+ghost use Rattle.rules.specs.Numbers.{digits};
 ghost use Rattle.rules.specs.Blocks.{block};
 ghost use Rattle.rules.specs.Report.{reportTag, reportBody, reportLine, reportLength};
 
-// The frame in binary: D1, length 0065, refusal, line, offset, eight verdicts, eleven figures.
-fn frame(refusal: book::Refusal, judgement: book::Judgement) -> [u8; 104]
+// 'D1, length 0065, then refusal 1, line 2, offset 2.'
+fn put_head(head: &mut [u8], refusal: book::Refusal)
+    requires { ⌜ length (now head) ≡ 8 ⌝ }
     requires { ⌜ (refusal .line < 65536) × (refusal .offset < 65536) ⌝ }
-    ensures { λ r. ⌜ r ≡ block reportTag (reportBody (refusal .number) (refusal .line) (refusal .offset) (judgement .verdicts) (judgement .figures)) ⌝ }
+    ensures { λ _. ⌜ now (head .exit) ≡ reportTag ∷ digits 2 0x65 ++ digits 1 (refusal .number) ++ digits 2 (refusal .line) ++ digits 2 (refusal .offset) ⌝ }
+{
+    head[0] = 0xD1;
+    head[1] = 0x00;
+    head[2] = 0x65;
+    head[3] = refusal.number;
+    numbers::put(&mut head[4..6], refusal.line as u64);
+    numbers::put(&mut head[6..8], refusal.offset as u64);
+}
+
+// The frame in binary: 'D1, length 0065, then refusal 1, line 2, offset 2, eight verdicts, eleven figures'.
+fn put_frame(frame: &mut [u8], refusal: book::Refusal, judgement: book::Judgement)
+    requires { ⌜ length (now frame) ≡ 104 ⌝ }
+    requires { ⌜ (refusal .line < 65536) × (refusal .offset < 65536) ⌝ }
+    ensures { λ _. ⌜ now (frame .exit) ≡ block reportTag (reportBody (refusal .number) (refusal .line) (refusal .offset) (judgement .verdicts) (judgement .figures)) ⌝ }
 {
     let verdicts = judgement.verdicts;
     let figures = judgement.figures;
-    let mut bytes = [0u8; 104];
-    numbers::put(&mut bytes[0..1], 0xD1);
-    numbers::put(&mut bytes[1..3], 0x65);
-    numbers::put(&mut bytes[3..4], refusal.number as u64);
-    numbers::put(&mut bytes[4..6], refusal.line as u64);
-    numbers::put(&mut bytes[6..8], refusal.offset as u64);
-    numbers::put_verdicts(&mut bytes[8..16], verdicts);
-    numbers::put_figures(&mut bytes[16..104], figures);
-    bytes
+    put_head(&mut frame[0..8], refusal);
+    numbers::put_verdicts(&mut frame[8..16], verdicts);
+    numbers::put_figures(&mut frame[16..104], figures);
 }
 
-// Writes the report into the front of a buffer; bytes beyond it keep their values.
+// Writes the report into the front of a buffer: the frame, two characters to a byte, and LF. Bytes beyond keep their values.
 pub fn write(report: &mut [u8], refusal: book::Refusal, judgement: book::Judgement)
     requires { ⌜ reportLength ≤ length (now report) ⌝ }
     requires { ⌜ (refusal .line < 65536) × (refusal .offset < 65536) ⌝ }
     ensures { λ _. ⌜ now (report .exit) ≡ reportLine (refusal .number) (refusal .line) (refusal .offset) (judgement .verdicts) (judgement .figures) ++ drop reportLength (now (report .entry)) ⌝ }
 {
-    let bytes = frame(refusal, judgement);
-    characters::put(report, &bytes);
+    let mut frame = [0u8; 104];
+    put_frame(&mut frame, refusal, judgement);
+    characters::put(report, &frame);
     report[208] = b'\n';
 }
