@@ -5,9 +5,9 @@ use mathlib.Core.Bool.{true, false}
 use native.Mathlib.Omega.{arith}
 use lib.IntN.{ℤ, pos, negsuc, _-ℤ_}
 use lib.Signed.{mag, ltZ}
-use borrow.Author.Tests.{ltb-true, le-ltb}
 use mir.Syntax.{w64}
 use mir.Val.{SFits}
+use borrow.Author.Tests.{ltb-true, le-ltb}
 use Rattle.rules.specs.Numbers.{twos}
 
 -- -1 - v is the magnitude of v less one.

@@ -26,11 +26,10 @@ concat-snoc f [] x = append-nil (f x)
 concat-snoc f (y ∷ xs) x = rw (concat-snoc f xs x) (sym (append-assoc (f y) (concat (map f xs)) (f x)))
 
 -- Parts of one size each, for the elements of a list.
-module _ {A : Type 0} (f : A → List ℕ) (m : ℕ) (size : (x : A) → length (f x) ≡ m) where
-  pub concat-length : (xs : List A) → length (concat (map f xs)) ≡ m * length xs
-  unfolding concat
-  concat-length [] = omega arith
-  concat-length (x ∷ xs) = rw (length-append (f x) (concat (map f xs)), size x, concat-length xs) (omega arith)
+pub concat-length : {A : Type 0} (f : A → List ℕ) (m : ℕ) → ((x : A) → length (f x) ≡ m) → (xs : List A) → length (concat (map f xs)) ≡ m * length xs
+unfolding concat
+concat-length f m size [] = omega arith
+concat-length f m size (x ∷ xs) = rw (length-append (f x) (concat (map f xs)), size x, concat-length f m size xs) (omega arith)
 
 -- A buffer with the parts of the first k elements written.
 abbrev pub written : {A : Type 0} → (A → List ℕ) → ℕ → List A → ℕ → List ℕ → List ℕ

@@ -3,18 +3,18 @@ mod characters;
 mod numbers;
 
 ghost use mathlib.Core.Path.{_≡_};
-ghost use mathlib.Core.List.{_∷_, _++_};
+ghost use mathlib.Core.List.{_++_};
 ghost use Prim.Native.Nat.{_<_, _≤_};
 ghost use lib.ListN.{length, drop};
-ghost use Rattle.rules.specs.Numbers.{digits};
 ghost use Rattle.rules.specs.Blocks.{block};
 ghost use Rattle.rules.specs.Report.{reportTag, reportBody, reportLine, reportLength};
+ghost use Rattle.report.specs.Head.{frameHead};
 
 // 'D1, length 0065, then refusal 1, line 2, offset 2.'
 fn put_head(head: &mut [u8], refusal: book::Refusal)
     requires { ⌜ length (now head) ≡ 8 ⌝ }
     requires { ⌜ (refusal .line < 65536) × (refusal .offset < 65536) ⌝ }
-    ensures { λ _. ⌜ now (head .exit) ≡ reportTag ∷ digits 2 0x65 ++ digits 1 (refusal .number) ++ digits 2 (refusal .line) ++ digits 2 (refusal .offset) ⌝ }
+    ensures { λ _. ⌜ now (head .exit) ≡ frameHead (refusal .number) (refusal .line) (refusal .offset) ⌝ }
 {
     head[0] = 0xD1;
     head[1] = 0x00;

@@ -21,7 +21,7 @@ pub fn put(part: &mut [u8], v: u64)
     }
 }
 
-// 'As 2^64 more than itself where it is negative': the magnitude is subtracted from zero, with wrapping.
+// 'As 2^64 more than itself where it is negative': the magnitude is subtracted from zero, with wrapping. (-v itself need not fit; -1 - v does.)
 fn bits(v: i64) -> u64
     ensures { λ r. ⌜ r ≡ twos v ⌝ }
 {

@@ -1,14 +1,10 @@
+-- The head, the verdicts and the figures fill the frame.
 use mathlib.Core.Path.{_≡_}
 use lib.ListN.{length}
-use Rattle.report.proofs.Frame.{framed}
 use borrow.Author.Needs.{needs}
+use Rattle.report.proofs.Frame.{framed}
 use Rattle.report.proofs.put_frame.Statement.{statement}
 use Rattle.report.proofs.put_frame.Tie as tie
-use Rattle.report.proofs.put_frame.Reads as reads
-use Rattle.report.proofs.put_frame.Lts as lts
-use Rattle.report.proofs.numbers.put_figures.Reads as put-figures-reads
-use Rattle.report.proofs.numbers.put_verdicts.Reads as put-verdicts-reads
-use Rattle.report.proofs.put_head.Reads as put-head-reads
 
 eight : (s : tie.Start) → length (s .args .judgement .verdicts) ≡ 8
 eight s = search needs
@@ -16,59 +12,45 @@ eight s = search needs
 eleven : (s : tie.Start) → length (s .args .judgement .figures) ≡ 11
 eleven s = search needs
 
--- src/lib.rt:35:14
 sub-put-head : tie.Need-sub-put-head
 sub-put-head c = search needs
 
--- src/lib.rt:35:14
 part-put-head-start : tie.Need-part-put-head-start
 part-put-head-start c = search needs
 
--- src/lib.rt:35:14
 part-put-head-end : tie.Need-part-put-head-end
 part-put-head-end c = search needs
 
--- src/lib.rt:35:5
 put-head-requires : tie.Need-put-head-requires
 put-head-requires c κs = search needs
 
--- src/lib.rt:36:27
 sub-put-verdicts : tie.Need-sub-put-verdicts
 sub-put-verdicts c = search needs
 
--- src/lib.rt:36:27
 part-put-verdicts-start : tie.Need-part-put-verdicts-start
 part-put-verdicts-start c = search needs
 
--- src/lib.rt:36:27
 part-put-verdicts-end : tie.Need-part-put-verdicts-end
 part-put-verdicts-end c = search needs
 
--- src/lib.rt:36:5
 put-verdicts-requires : tie.Need-put-verdicts-requires
 put-verdicts-requires c κs = search needs
 
--- src/lib.rt:37:26
 sub-put-figures : tie.Need-sub-put-figures
 sub-put-figures c = search needs
 
--- src/lib.rt:37:26
 part-put-figures-start : tie.Need-part-put-figures-start
 part-put-figures-start c = search needs
 
--- src/lib.rt:37:26
 part-put-figures-end : tie.Need-part-put-figures-end
 part-put-figures-end c = search needs
 
--- src/lib.rt:37:5
 put-figures-requires : tie.Need-put-figures-requires
 put-figures-requires c κs = search needs
 
--- src/lib.rt:28:1
 same-length : tie.Need-same-length
 same-length c = search needs
 
--- src/lib.rt:28:1
 returns : tie.Need-returns
 returns c =
     let f = c .before .before in

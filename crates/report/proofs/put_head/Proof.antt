@@ -1,21 +1,19 @@
-use lib.ListN.{length-drop}
-use Prim.Native.Nat.{ℕ, _<_, _≤_, _+_, _^_}
+-- Four bytes are stored, then line and offset are written into the parts lent for them.
+use Prim.Native.Nat.{_+_}
 use mathlib.Core.Path.{_≡_, refl, sym, _∙_, ap}
-use mathlib.Core.List.{List, [], _∷_, _++_, append-nil}
+use mathlib.Core.List.{[], _∷_, _++_}
 use native.Mathlib.Nat.{div-one}
 use native.Mathlib.Omega.{arith}
-use lib.ListN.{length, set, drop, length-set, drop-of-length-le}
+use lib.ListN.{length-drop, length, set, drop, length-set, drop-of-length-le}
 use lib.Seq.{sets-eq}
 use borrow.Rule.Slice.PartMut.{putMid, mid-len}
+use borrow.Author.Needs.{needs}
 use Rattle.rules.specs.Numbers.{digits}
 use Rattle.rules.specs.Report.{reportTag}
+use Rattle.report.specs.Head.{frameHead}
 use Rattle.report.proofs.Parts.{lent}
-use borrow.Author.Needs.{needs}
 use Rattle.report.proofs.put_head.Statement.{statement}
 use Rattle.report.proofs.put_head.Tie as tie
-use Rattle.report.proofs.put_head.Reads as reads
-use Rattle.report.proofs.put_head.Lts as lts
-use Rattle.report.proofs.numbers.put.Reads as put-reads
 
 -- After the stores.
 stored : (s : tie.Start) → set (set (set (set (s .args .head .now) 0 0xD1) 1 0) 2 0x65) 3 (s .args .refusal .number)
@@ -35,7 +33,7 @@ line-put c =
 -- With the offset.
 offset-put : (c : tie.After-put2) → let q = c .before .before .before .before in let s = q .before .before .before in
     putMid 6 2 (putMid 4 2 (set (set (set (set (s .args .head .now) 0 0xD1) 1 0) 2 0x65) 3 (s .args .refusal .number)) (q .put .last .0)) (c .put2 .last .0)
-    ≡ reportTag ∷ digits 2 0x65 ++ digits 1 (s .args .refusal .number) ++ digits 2 (s .args .refusal .line) ++ digits 2 (s .args .refusal .offset)
+    ≡ frameHead (s .args .refusal .number) (s .args .refusal .line) (s .args .refusal .offset)
 unfolding digits
 offset-put c =
     let q = c .before .before .before .before in
@@ -47,66 +45,52 @@ offset-put c =
     (lent (reportTag ∷ 0 ∷ 0x65 ∷ r .number ∷ digits 2 (r .line)) (digits 2 (r .offset)) l 6 8 refl (omega arith)
     ∙ rw (drop-of-length-le l {i = 8} (omega arith), div-one (r .number)))
 
--- src/lib.rt:19:5
 slice-write-head : tie.Need-slice-write-head
 slice-write-head c = search needs
 
--- src/lib.rt:20:5
 slice-write-head-2 : tie.Need-slice-write-head-2
 slice-write-head-2 c = search needs
 
--- src/lib.rt:21:5
 slice-write-head-3 : tie.Need-slice-write-head-3
 slice-write-head-3 c = search needs
 
--- src/lib.rt:22:5
 slice-write-head-4 : tie.Need-slice-write-head-4
 slice-write-head-4 c = search needs
 
--- src/lib.rt:23:18
 sub-put : tie.Need-sub-put
 sub-put c = search needs
 
--- src/lib.rt:23:18
 part-put-start : tie.Need-part-put-start
 part-put-start c = search needs
 
--- src/lib.rt:23:18
 part-put-end : tie.Need-part-put-end
 part-put-end c = simp length-set (omega arith)
 
--- src/lib.rt:23:5
 put-requires : tie.Need-put-requires
 put-requires c κs =
     let s = c .before .before in
     rw (stored s, mid-len 4 6 (s .args .head .now) (omega arith)) (s .pre .1 .0)
 
--- src/lib.rt:24:18
 sub-put-2 : tie.Need-sub-put-2
 sub-put-2 c = search needs
 
--- src/lib.rt:24:18
 part-put-start-2 : tie.Need-part-put-start-2
 part-put-start-2 c = search needs
 
--- src/lib.rt:24:18
 part-put-end-2 : tie.Need-part-put-end-2
 unfolding digits
 part-put-end-2 c = rw (line-put (c .before .before)) (omega (arith, length-drop 6 (c .before .before .before .before .before .args .head .now)))
 
--- src/lib.rt:24:5
 put-requires-2 : tie.Need-put-requires-2
 unfolding digits
 put-requires-2 c κs =
     let s = c .before .before .before .before .before .before in
     rw (line-put (c .before .before .before), mid-len 6 8 (s .args .head .now) (omega arith)) (s .pre .1 .1)
 
--- src/lib.rt:14:1
 same-length : tie.Need-same-length
 unfolding digits
 same-length c = ap length (offset-put (c .before .before)) ∙ sym (c .before .before .before .before .before .before .before .before .before .pre .0)
 
--- src/lib.rt:14:1
 returns : tie.Need-returns
 returns c = offset-put (c .before .before)
 

@@ -1,25 +1,20 @@
+-- The two cases of a digit's character.
 use borrow.Author.Tests.{lt-ltb, le-ltb}
-use Rattle.rules.specs.Text.{digit}
 use borrow.Author.Needs.{needs}
+use Rattle.rules.specs.Text.{digit}
 use Rattle.report.proofs.characters.character.Statement.{statement}
 use Rattle.report.proofs.characters.character.Tie as tie
-use Rattle.report.proofs.characters.character.Reads as reads
-use Rattle.report.proofs.characters.character.Lts as lts
 
--- src/characters.rt:13:17
 add-result : tie.Need-add-result
 add-result c = search needs
 
--- src/characters.rt:13:33
 add-result-2 : tie.Need-add-result-2
 add-result-2 c = search needs
 
--- src/characters.rt:9:1
 returns : tie.Need-returns
 unfolding digit
 returns c = simp (lt-ltb _ _ (c .if1 .taken))
 
--- src/characters.rt:9:1
 returns-2 : tie.Need-returns-2
 unfolding digit
 returns-2 c = simp (le-ltb _ _ (c .if1 .left))

@@ -1,17 +1,14 @@
-use borrow.Author.Needs.{needs}
-use Prim.Native.Nat.{ℕ, _+_, _-_, _*_, _≤_, _<_}
-use mathlib.Core.Path.{_≡_, refl, sym, _∙_, ap}
-use mathlib.Core.List.{List, [], _∷_}
+-- The invariant is that the characters of the first k bytes are written, and what follows is as it was.
+use Prim.Native.Nat.{ℕ, _+_, _-_, _*_, _≤_}
+use mathlib.Core.Path.{_≡_, refl, _∙_, ap}
+use mathlib.Core.List.{[], _∷_}
 use native.Mathlib.Omega.{arith}
-use lib.ListN.{length, getD}
+use lib.ListN.{length}
 use borrow.Rule.Slice.PartMut.{mid-len}
 use Rattle.rules.specs.Text.{hex}
 use Rattle.report.proofs.Parts.{hex-parts, written, written-none, written-more, written-length, written-all}
 use Rattle.report.proofs.characters.put.Statement.{statement}
 use Rattle.report.proofs.characters.put.Tie as tie
-use Rattle.report.proofs.characters.put.Reads as reads
-use Rattle.report.proofs.characters.put.Lts as lts
-use Rattle.report.proofs.characters.put_byte.Reads as put-byte-reads
 
 abbrev Inv-loop : tie.InvT-loop
 Inv-loop out₀ bytes k₀ out k = (k ≤ length bytes) × (out ≡ written (λ b. hex (b ∷ [])) 2 bytes k out₀)
@@ -29,49 +26,38 @@ whole c =
     ap length (c .loop .inv .1)
     ∙ written-length _ 2 pair (c .before .before .before .args .bytes .now) (c .before .before .before .args .out .now) (c .loop .k) (omega arith) (omega arith)
 
--- src/characters.rt:31:5
 loop-holds : tie.Need-loop-holds Inv-loop μ-loop
 loop-holds c = (omega arith, written-none (λ b. hex (b ∷ [])) 2 pair (c .before .before .args .bytes .now) (c .before .before .args .out .now))
 
--- src/characters.rt:32:18
 mul-at : tie.Need-mul-at Inv-loop μ-loop
 mul-at c = omega (arith, whole (c .before), c .before .before .before .before .good)
 
--- src/characters.rt:33:31
 add-put-byte : tie.Need-add-put-byte Inv-loop μ-loop
 add-put-byte c = omega (arith, whole (c .before), c .before .before .before .before .good)
 
--- src/characters.rt:33:18
 sub-put-byte : tie.Need-sub-put-byte Inv-loop μ-loop
 sub-put-byte c = omega arith
 
--- src/characters.rt:33:18
 part-put-byte-start : tie.Need-part-put-byte-start Inv-loop μ-loop
 part-put-byte-start c = omega arith
 
--- src/characters.rt:33:18
 part-put-byte-end : tie.Need-part-put-byte-end Inv-loop μ-loop
 part-put-byte-end c = omega (arith, whole (c .before))
 
--- src/characters.rt:33:40
 shared-slice-read-put-byte : tie.Need-shared-slice-read-put-byte Inv-loop μ-loop
 shared-slice-read-put-byte c = omega arith
 
--- src/characters.rt:33:9
 put-byte-requires : tie.Need-put-byte-requires Inv-loop μ-loop
 put-byte-requires c κs =
     let l = c .before .before .before .loop in
     mid-len (2 * l .k) (2 * l .k + 2) (l .out) (omega (arith, whole (c .before .before .before))) ∙ omega arith
 
--- src/characters.rt:34:13
 add-k : tie.Need-add-k Inv-loop μ-loop
 add-k c = omega arith
 
--- src/characters.rt:31:5
 loop-less : tie.Need-loop-less Inv-loop μ-loop
 loop-less c = omega arith
 
--- src/characters.rt:31:5
 loop-again : tie.Need-loop-again Inv-loop μ-loop
 loop-again c =
     let t = c .before .before .before .before .before .before in
@@ -79,11 +65,9 @@ loop-again c =
     let z = c .before .before .put-byte .ensures in
     (omega arith, rw (t .loop .inv .1, z) (written-more (λ b. hex (b ∷ [])) 2 pair (s .args .bytes .now) (s .args .out .now) (t .loop .k) 0 (omega arith)))
 
--- src/characters.rt:26:1
 same-length : tie.Need-same-length Inv-loop μ-loop
 same-length c = whole (c .before)
 
--- src/characters.rt:26:1
 returns : tie.Need-returns Inv-loop μ-loop
 returns c =
     let t = c .before in

@@ -1,39 +1,31 @@
+-- Two stores fill a part of two.
 use Prim.Native.Nat.{_≤_}
 use mathlib.Core.Path.{_∙_}
 use mathlib.Core.List.{[], _∷_}
 use native.Mathlib.Omega.{arith}
-use denote.Ref.{now}
 use lib.ListN.{length, drop-of-length-le}
 use lib.Seq.{sets-eq}
-use Rattle.rules.specs.Text.{hex}
+use denote.Ref.{now}
 use borrow.Author.Needs.{needs}
+use Rattle.rules.specs.Text.{hex}
 use Rattle.report.proofs.characters.put_byte.Statement.{statement}
 use Rattle.report.proofs.characters.put_byte.Tie as tie
-use Rattle.report.proofs.characters.put_byte.Reads as reads
-use Rattle.report.proofs.characters.put_byte.Lts as lts
-use Rattle.report.proofs.characters.character.Reads as character-reads
 
--- src/characters.rt:21:15
 character-requires : tie.Need-character-requires
 character-requires c κs = search needs
 
--- src/characters.rt:21:5
 slice-write-part : tie.Need-slice-write-part
 slice-write-part c = search needs
 
--- src/characters.rt:22:15
 character-requires-2 : tie.Need-character-requires-2
 character-requires-2 c κs = search needs
 
--- src/characters.rt:22:5
 slice-write-part-2 : tie.Need-slice-write-part-2
 slice-write-part-2 c = search needs
 
--- src/characters.rt:17:1
 same-length : tie.Need-same-length
 same-length c = search needs
 
--- src/characters.rt:17:1
 returns : tie.Need-returns
 unfolding hex
 returns c =

@@ -1,28 +1,23 @@
-use Rattle.rules.proofs.Numbers.{twos-lt}
-use Prim.Native.Nat.{ℕ, _+_, _<_, _^_}
-use mathlib.Core.Path.{_≡_, ap}
-use lib.IntN.{ℤ, pos, natAbs}
-use lib.Signed.{mag}
+-- Below zero the magnitude is subtracted from zero with wrapping; from zero on the figure is written as it is.
+use mathlib.Core.Path.{ap}
 use native.Mathlib.Omega.{arith}
+use lib.IntN.{pos, natAbs}
+use lib.Signed.{mag}
 use mir.Syntax.{w64}
 use mir.Val.{SFits}
 use mir.ValLaws.{toZ-ofZ}
-use Rattle.report.proofs.Below.{less-one, wraps, as-it-is}
 use borrow.Author.Needs.{needs}
+use Rattle.rules.proofs.Numbers.{twos-lt}
+use Rattle.report.proofs.Below.{less-one, wraps, as-it-is}
 use Rattle.report.proofs.numbers.bits.Statement.{statement}
 use Rattle.report.proofs.numbers.bits.Tie as tie
-use Rattle.report.proofs.numbers.bits.Reads as reads
-use Rattle.report.proofs.numbers.bits.Lts as lts
-use Rattle.std.proofs.num.wrapping_sub_u64.Reads as wrapping-sub-u64-reads
 
--- src/numbers.rt:29:26
 sub-magnitude : tie.Need-sub-magnitude
 sub-magnitude c =
     let f = c .before .fits .v in
     let t = simp (toZ-ofZ w64 _ f) at (c .if1 .taken) in
     simp (toZ-ofZ w64 _ f, less-one (c .before .args .v) t) (record { sfits = f .sfits })
 
--- src/numbers.rt:29:25
 cast-magnitude : tie.Need-cast-magnitude
 cast-magnitude c =
     let f = c .before .fits .v in
@@ -30,7 +25,6 @@ cast-magnitude c =
     let t = simp (toZ-ofZ w64 _ f) at (c .if1 .taken) in
     simp (toZ-ofZ w64 _ f, less-one (c .before .args .v) t, toZ-ofZ w64 _ p) (tt, omega (arith, f .sfits))
 
--- src/numbers.rt:29:25
 add-magnitude : tie.Need-add-magnitude
 add-magnitude c =
     let f = c .before .fits .v in
@@ -38,18 +32,15 @@ add-magnitude c =
     let t = simp (toZ-ofZ w64 _ f) at (c .if1 .taken) in
     simp (toZ-ofZ w64 _ f, less-one (c .before .args .v) t, toZ-ofZ w64 _ p) (omega (arith, f .sfits))
 
--- src/numbers.rt:30:9
 wrapping-sub-u64-requires : tie.Need-wrapping-sub-u64-requires
 wrapping-sub-u64-requires c κs = search needs
 
--- src/numbers.rt:32:9
 cast-result : tie.Need-cast-result
 cast-result c =
     let f = c .before .fits .v in
     let t = simp (toZ-ofZ w64 _ f) at (c .if1 .left) in
     simp (toZ-ofZ w64 _ f) (rw (as-it-is (c .before .args .v) t) (tt, record { fits = twos-lt (c .before .args .v) (f .sfits) }))
 
--- src/numbers.rt:25:1
 returns : tie.Need-returns
 returns c =
     let f = c .before .before .fits .v in
@@ -57,7 +48,6 @@ returns c =
     let t = simp (toZ-ofZ w64 _ f) at (c .before .if1 .taken) in
     wraps (c .before .before .args .v) (c .wrapping-sub-u64 .result) f t (c .wrapping-sub-u64 .ok) (simp (toZ-ofZ w64 _ f, less-one (c .before .before .args .v) t, toZ-ofZ w64 _ p) at (c .wrapping-sub-u64 .ensures))
 
--- src/numbers.rt:25:1
 returns-2 : tie.Need-returns-2
 returns-2 c =
     let f = c .before .fits .v in

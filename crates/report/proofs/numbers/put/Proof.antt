@@ -1,17 +1,14 @@
+-- A number's bytes are stored from the lowest on: the invariant is that the last k of the part are the lowest k of the number.
+use Prim.Native.Nat.{_-_, _<_, _/_, _%_, _^_, _≤_}
+use mathlib.Core.Path.{refl, sym, _≡_}
 use native.Mathlib.Nat.{div-one, mod-eq-of-lt}
 use native.Mathlib.Numerals.{add-one}
-use mathlib.Core.Path.{refl, sym, _∙_, ap}
-use lib.ListN.{drop-of-length-le}
-use Rattle.report.proofs.Digits.{rest-more, stored-more}
-use Prim.Native.Nat.{_-_, _<_, _+_, _/_, _%_, _^_, _≤_}
-use mathlib.Core.Path.{_≡_}
 use native.Mathlib.Omega.{arith}
-use lib.ListN.{length, drop, length-set}
+use lib.ListN.{drop-of-length-le, length, drop, length-set}
 use Rattle.rules.specs.Numbers.{digits}
+use Rattle.report.proofs.Digits.{rest-more, stored-more}
 use Rattle.report.proofs.numbers.put.Statement.{statement}
 use Rattle.report.proofs.numbers.put.Tie as tie
-use Rattle.report.proofs.numbers.put.Reads as reads
-use Rattle.report.proofs.numbers.put.Lts as lts
 
 abbrev Inv-loop : tie.InvT-loop
 Inv-loop part₀ v n rest₀ k₀ part rest k = (k ≤ n) × (length part ≡ n) × (rest ≡ v / 256 ^ k) × (drop (n - k) part ≡ digits k (v % 256 ^ k))
@@ -19,36 +16,28 @@ Inv-loop part₀ v n rest₀ k₀ part rest k = (k ≤ n) × (length part ≡ n)
 abbrev μ-loop : tie.MeasureT-loop
 μ-loop part₀ v n rest₀ k₀ part rest k = n - k
 
--- src/numbers.rt:17:5
 loop-holds : tie.Need-loop-holds Inv-loop μ-loop
 unfolding digits
 loop-holds c = (omega arith, refl, sym (div-one (c .args .v)), drop-of-length-le (c .args .part .now) {i = length (c .args .part .now) - 0} (omega arith))
 
--- src/numbers.rt:18:27
 cast-part : tie.Need-cast-part Inv-loop μ-loop
 cast-part c = omega arith
 
--- src/numbers.rt:18:14
 sub-part : tie.Need-sub-part Inv-loop μ-loop
 sub-part c = omega arith
 
--- src/numbers.rt:18:14
 sub-part-2 : tie.Need-sub-part-2 Inv-loop μ-loop
 sub-part-2 c = omega arith
 
--- src/numbers.rt:18:9
 slice-write-part : tie.Need-slice-write-part Inv-loop μ-loop
 slice-write-part c = omega arith
 
--- src/numbers.rt:20:13
 add-k : tie.Need-add-k Inv-loop μ-loop
 add-k c = omega arith
 
--- src/numbers.rt:17:5
 loop-less : tie.Need-loop-less Inv-loop μ-loop
 loop-less c = omega arith
 
--- src/numbers.rt:17:5
 loop-again : tie.Need-loop-again Inv-loop μ-loop
 loop-again c =
     let l = c .before .loop in
@@ -56,11 +45,9 @@ loop-again c =
     let v = c .before .before .args .v in
     (omega arith, simp length-set (omega arith), rw (l .inv .2, add-one) (rest-more (l .k) v), rw (l .inv .2) (stored-more (l .part) n (l .k) v (omega arith) (omega arith) (l .inv .3)))
 
--- src/numbers.rt:10:1
 same-length : tie.Need-same-length Inv-loop μ-loop
 same-length c = omega arith
 
--- src/numbers.rt:10:1
 returns : tie.Need-returns Inv-loop μ-loop
 returns c =
     let l = c .before .loop in

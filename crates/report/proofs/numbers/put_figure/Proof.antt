@@ -1,34 +1,25 @@
-use mathlib.Core.Path.{ap}
+-- The number that is written for a figure fits the eight bytes of its part.
+use mathlib.Core.Path.{_≡_, _∙_}
+use lib.ListN.{length}
+use denote.Ref.{now}
 use mir.Syntax.{w64}
 use mir.ValLaws.{toZ-ofZ}
-use Prim.Native.Nat.{_^_, _<_}
-use mathlib.Core.Path.{_≡_, _∙_}
-use denote.Ref.{now}
-use lib.ListN.{length}
-use Rattle.rules.specs.Numbers.{digits, twos}
 use borrow.Author.Needs.{needs}
+use Rattle.rules.specs.Numbers.{twos}
 use Rattle.report.proofs.numbers.put_figure.Statement.{statement}
 use Rattle.report.proofs.numbers.put_figure.Tie as tie
-use Rattle.report.proofs.numbers.put_figure.Reads as reads
-use Rattle.report.proofs.numbers.put_figure.Lts as lts
-use Rattle.report.proofs.numbers.bits.Reads as bits-reads
-use Rattle.report.proofs.numbers.put.Reads as put-reads
 
--- src/numbers.rt:41:15
 bits-requires : tie.Need-bits-requires
 bits-requires c κs = search needs
 
--- src/numbers.rt:41:5
 put-requires : tie.Need-put-requires
 put-requires c κs =
     let e : length (now (c .before .before .before .args .part)) ≡ 8 = c .before .before .before .pre in
     rw e (c .bits .ok)
 
--- src/numbers.rt:37:1
 same-length : tie.Need-same-length
 same-length c = search needs
 
--- src/numbers.rt:37:1
 returns : tie.Need-returns
 returns c =
     let s = c .before .before .before .before .before .before in

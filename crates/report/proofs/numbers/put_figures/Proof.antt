@@ -1,22 +1,20 @@
-use mir.Val.{SFits}
-use borrow.Author.Needs.{needs}
-use Prim.Native.Nat.{_+_, _-_, _*_, _≤_, _<_}
-use mathlib.Core.Path.{_≡_, refl, sym, _∙_, ap}
-use mathlib.Core.List.{List, append-nil}
+-- The invariant is that the parts of the first k figures are written, and what follows is as it was.
+use Prim.Native.Nat.{_+_, _-_, _*_, _≤_}
+use mathlib.Core.Path.{_≡_, _∙_, ap}
+use mathlib.Core.List.{append-nil}
 use native.Mathlib.Omega.{arith}
 use lib.IntN.{ℤ, pos}
 use lib.ListN.{length, getD, drop-of-length-le}
-use borrow.Rule.Slice.PartMut.{mid-len}
+use mir.Val.{SFits}
 use mir.Syntax.{w64}
 use mir.ValLaws.{toZ-ofZ}
+use borrow.Author.Needs.{needs}
+use borrow.Rule.Slice.PartMut.{mid-len}
 use Rattle.rules.specs.Numbers.{digits, twos}
 use Rattle.rules.proofs.Numbers.{length-digits}
 use Rattle.report.proofs.Parts.{written, written-none, written-more, written-length, written-all}
 use Rattle.report.proofs.numbers.put_figures.Statement.{statement}
 use Rattle.report.proofs.numbers.put_figures.Tie as tie
-use Rattle.report.proofs.numbers.put_figures.Reads as reads
-use Rattle.report.proofs.numbers.put_figures.Lts as lts
-use Rattle.report.proofs.numbers.put_figure.Reads as put-figure-reads
 
 abbrev Inv-loop : tie.InvT-loop
 Inv-loop body₀ figures k₀ body k = (k ≤ 11) × (body ≡ written (λ z. digits 8 (twos z)) 8 figures k body₀)
@@ -36,53 +34,41 @@ whole c =
     ap length (c .loop .inv .1) ∙ written-length _ 8 eight (c .before .before .args .t2) (c .before .before .args .body .now) (c .loop .k) (omega (arith, eleven c)) (omega arith)
     ∙ c .before .before .pre
 
--- src/numbers.rt:50:5
 loop-holds : tie.Need-loop-holds Inv-loop μ-loop
 loop-holds c = (omega arith, written-none (λ z. digits 8 (twos z)) 8 eight (c .before .args .t2) (c .before .args .body .now))
 
--- src/numbers.rt:51:18
 mul-at : tie.Need-mul-at Inv-loop μ-loop
 mul-at c = omega arith
 
--- src/numbers.rt:52:34
 add-put-figure : tie.Need-add-put-figure Inv-loop μ-loop
 add-put-figure c = omega arith
 
--- src/numbers.rt:52:20
 sub-put-figure : tie.Need-sub-put-figure Inv-loop μ-loop
 sub-put-figure c = omega arith
 
--- src/numbers.rt:52:20
 part-put-figure-start : tie.Need-part-put-figure-start Inv-loop μ-loop
 part-put-figure-start c = omega arith
 
--- src/numbers.rt:52:20
 part-put-figure-end : tie.Need-part-put-figure-end Inv-loop μ-loop
 part-put-figure-end c = omega (arith, whole (c .before))
 
--- src/numbers.rt:52:43
 mul-put-figure : tie.Need-mul-put-figure Inv-loop μ-loop
 mul-put-figure c = omega arith
 
--- src/numbers.rt:52:43
 array-copy-out-put-figure : tie.Need-array-copy-out-put-figure Inv-loop μ-loop
 array-copy-out-put-figure c = omega arith
 
--- src/numbers.rt:52:9
 put-figure-requires : tie.Need-put-figure-requires Inv-loop μ-loop
 put-figure-requires c κs =
     let l = c .before .before .before .loop in
     mid-len (8 * l .k) (8 * l .k + 8) (l .body) (omega (arith, whole (c .before .before .before))) ∙ omega arith
 
--- src/numbers.rt:53:13
 add-k : tie.Need-add-k Inv-loop μ-loop
 add-k c = omega arith
 
--- src/numbers.rt:50:5
 loop-less : tie.Need-loop-less Inv-loop μ-loop
 loop-less c = omega arith
 
--- src/numbers.rt:50:5
 loop-again : tie.Need-loop-again Inv-loop μ-loop
 loop-again c =
     let t = c .before .before .before .before .before .before in
@@ -92,11 +78,9 @@ loop-again c =
     let z : c .before .before .put-figure .last .0 ≡ digits 8 (twos figure) = simp (toZ-ofZ w64 _ f) at (c .before .before .put-figure .ensures) in
     (omega arith, rw (t .loop .inv .1, z) (written-more (λ z. digits 8 (twos z)) 8 eight (s .args .t2) (s .args .body .now) (t .loop .k) (pos 0) (omega (arith, eleven t))))
 
--- src/numbers.rt:45:1
 same-length : tie.Need-same-length Inv-loop μ-loop
 same-length c = omega (arith, whole (c .before), c .before .before .before .pre)
 
--- src/numbers.rt:45:1
 returns : tie.Need-returns Inv-loop μ-loop
 returns c =
     let t = c .before in

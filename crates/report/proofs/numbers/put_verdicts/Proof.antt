@@ -1,15 +1,13 @@
-use mathlib.Core.Path.{refl, sym, _∙_}
-use native.Mathlib.Numerals.{add-one}
-use lib.Seq.{take-suc, take-suc-set, take-all}
-use borrow.Author.Needs.{needs}
+-- The invariant is that the first k verdicts stand at the front of the part.
 use Prim.Native.Nat.{_-_, _<_, _≤_}
-use mathlib.Core.Path.{_≡_}
+use mathlib.Core.Path.{refl, sym, _∙_, _≡_}
+use native.Mathlib.Numerals.{add-one}
 use native.Mathlib.Omega.{arith}
+use lib.Seq.{take-suc, take-suc-set, take-all}
 use lib.ListN.{length, take, length-set}
+use borrow.Author.Needs.{needs}
 use Rattle.report.proofs.numbers.put_verdicts.Statement.{statement}
 use Rattle.report.proofs.numbers.put_verdicts.Tie as tie
-use Rattle.report.proofs.numbers.put_verdicts.Reads as reads
-use Rattle.report.proofs.numbers.put_verdicts.Lts as lts
 
 abbrev Inv-loop : tie.InvT-loop
 Inv-loop part₀ verdicts k₀ part k = (k ≤ 8) × (length part ≡ 8) × (take k part ≡ take k verdicts)
@@ -17,27 +15,21 @@ Inv-loop part₀ verdicts k₀ part k = (k ≤ 8) × (length part ≡ 8) × (tak
 abbrev μ-loop : tie.MeasureT-loop
 μ-loop part₀ verdicts k₀ part k = 8 - k
 
--- src/numbers.rt:63:5
 loop-holds : tie.Need-loop-holds Inv-loop μ-loop
 loop-holds c = (omega arith, c .pre, refl)
 
--- src/numbers.rt:64:19
 array-read-part : tie.Need-array-read-part Inv-loop μ-loop
 array-read-part c = omega arith
 
--- src/numbers.rt:64:9
 slice-write-part : tie.Need-slice-write-part Inv-loop μ-loop
 slice-write-part c = omega arith
 
--- src/numbers.rt:65:13
 add-k : tie.Need-add-k Inv-loop μ-loop
 add-k c = omega arith
 
--- src/numbers.rt:63:5
 loop-less : tie.Need-loop-less Inv-loop μ-loop
 loop-less c = omega arith
 
--- src/numbers.rt:63:5
 loop-again : tie.Need-loop-again Inv-loop μ-loop
 loop-again c =
     let l = c .before .loop in
@@ -47,11 +39,9 @@ loop-again c =
     let k : l .k < length v = omega arith in
     (omega arith, simp length-set (omega arith), rw (add-one (l .k), take-suc-set (l .part) (l .k) _ h, take-suc v (l .k) 0 k, l .inv .2))
 
--- src/numbers.rt:58:1
 same-length : tie.Need-same-length Inv-loop μ-loop
 same-length c = omega arith
 
--- src/numbers.rt:58:1
 returns : tie.Need-returns Inv-loop μ-loop
 returns c =
     let l = c .before .loop in
