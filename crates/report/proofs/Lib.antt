@@ -3,3 +3,4 @@ pub mod Below
 pub mod Parts
 pub mod Length
 pub mod Frame
+pub mod OneAnswer
