@@ -1,14 +1,14 @@
--- The invariant is that the characters of the first k bytes are written, and what follows is as it was.
-use Prim.Native.Nat.{ℕ, _+_, _-_, _*_, _≤_}
+use Prim.Native.Nat.{ℕ, _-_, _≤_}
 use mathlib.Core.Path.{_≡_, refl, _∙_, ap}
 use mathlib.Core.List.{[], _∷_}
 use native.Mathlib.Omega.{arith}
-use lib.ListN.{length}
-use borrow.Rule.Slice.PartMut.{mid-len}
+use lib.ListN.{length-take, length-drop, length}
 use Rattle.rules.specs.Text.{hex}
 use Rattle.report.proofs.Parts.{hex-parts, written, written-none, written-more, written-length, written-all}
 use Rattle.report.proofs.characters.put.Statement.{statement}
 use Rattle.report.proofs.characters.put.Tie as tie
+
+-- The invariant is that the characters of the first k bytes are written, and what follows is as it was.
 
 abbrev Inv-loop : tie.InvT-loop
 Inv-loop out₀ bytes k₀ out k = (k ≤ length bytes) × (out ≡ written (λ b. hex (b ∷ [])) 2 bytes k out₀)
@@ -48,9 +48,7 @@ shared-slice-read-put-byte : tie.Need-shared-slice-read-put-byte Inv-loop μ-loo
 shared-slice-read-put-byte c = omega arith
 
 put-byte-requires : tie.Need-put-byte-requires Inv-loop μ-loop
-put-byte-requires c κs =
-    let l = c .before .before .before .loop in
-    mid-len (2 * l .k) (2 * l .k + 2) (l .out) (omega (arith, whole (c .before .before .before))) ∙ omega arith
+put-byte-requires c κs = simp (length-take, length-drop) (omega (arith, whole (c .before .before .before)))
 
 add-k : tie.Need-add-k Inv-loop μ-loop
 add-k c = omega arith

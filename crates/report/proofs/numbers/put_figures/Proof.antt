@@ -1,20 +1,20 @@
--- The invariant is that the parts of the first k figures are written, and what follows is as it was.
-use Prim.Native.Nat.{_+_, _-_, _*_, _≤_}
+use Prim.Native.Nat.{_-_, _*_, _≤_}
 use mathlib.Core.Path.{_≡_, _∙_, ap}
 use mathlib.Core.List.{append-nil}
 use native.Mathlib.Omega.{arith}
+use lib.ListN.{length-take, length-drop, length, getD, drop-of-length-le}
 use lib.IntN.{ℤ, pos}
-use lib.ListN.{length, getD, drop-of-length-le}
 use mir.Val.{SFits}
 use mir.Syntax.{w64}
 use mir.ValLaws.{toZ-ofZ}
 use borrow.Author.Needs.{needs}
-use borrow.Rule.Slice.PartMut.{mid-len}
 use Rattle.rules.specs.Numbers.{digits, twos}
 use Rattle.rules.proofs.Numbers.{length-digits}
 use Rattle.report.proofs.Parts.{written, written-none, written-more, written-length, written-all}
 use Rattle.report.proofs.numbers.put_figures.Statement.{statement}
 use Rattle.report.proofs.numbers.put_figures.Tie as tie
+
+-- The invariant is that the parts of the first k figures are written, and what follows is as it was.
 
 abbrev Inv-loop : tie.InvT-loop
 Inv-loop body₀ figures k₀ body k = (k ≤ 11) × (body ≡ written (λ z. digits 8 (twos z)) 8 figures k body₀)
@@ -59,9 +59,7 @@ array-copy-out-put-figure : tie.Need-array-copy-out-put-figure Inv-loop μ-loop
 array-copy-out-put-figure c = omega arith
 
 put-figure-requires : tie.Need-put-figure-requires Inv-loop μ-loop
-put-figure-requires c κs =
-    let l = c .before .before .before .loop in
-    mid-len (8 * l .k) (8 * l .k + 8) (l .body) (omega (arith, whole (c .before .before .before))) ∙ omega arith
+put-figure-requires c κs = simp (length-take, length-drop) (omega (arith, whole (c .before .before .before)))
 
 add-k : tie.Need-add-k Inv-loop μ-loop
 add-k c = omega arith
