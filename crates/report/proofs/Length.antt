@@ -24,7 +24,7 @@ module _ (number line offset : ℕ) (verdicts : List ℕ) (figures : List ℤ) (
       let f : length (concat (map (λ z. digits 8 (twos z)) figures)) ≡ 8 * length figures = concat-length (λ z. digits 8 (twos z)) 8 (λ z. length-digits 8 (twos z)) figures in
       simp length-append (omega arith)
 
-  pub frame-length : length (block reportTag (reportBody number line offset verdicts figures)) ≡ 104
+  frame-length : length (block reportTag (reportBody number line offset verdicts figures)) ≡ 104
   unfolding block digits
   frame-length = omega (arith, body-length)
 
