@@ -19,6 +19,7 @@ pub mod Searches
 pub mod Roll
 pub mod Divisions
 pub mod Ranges
+pub mod Fair
 pub mod Levers
 pub mod Areas
 pub mod Angles
