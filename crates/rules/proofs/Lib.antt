@@ -1,4 +1,3 @@
-pub mod Bench
 pub mod Numbers
 pub mod Answers
 pub mod Fields
@@ -23,6 +22,7 @@ pub mod Tables
 pub mod Rows
 pub mod Searches
 pub mod Roll
+pub mod Divisions
 pub mod Ranges
 pub mod Drawing
 pub mod Alike
@@ -31,3 +31,14 @@ pub mod FrameFault
 pub mod FirstFault
 pub mod BadLine
 pub mod Reading
+pub mod Fair
+pub mod Levers
+pub mod Areas
+pub mod Angles
+pub mod Edges
+pub mod Counts
+pub mod Verdicts
+pub mod Cases
+pub mod Bench
+pub mod Slips
+pub mod Within

@@ -19,22 +19,22 @@ use Rattle.rules.proofs.Whole.{read-steps, read-allowed}
 pub record Refusal {A : Type 0} (P : ℕ → ℕ → ℕ → Type 0) (m : Ans A) : Type 0 where
   pub holds : (n l o : ℕ) → m ≡ refused n l o → P n l o
 
-given : {A : Type 0} {P : ℕ → ℕ → ℕ → Type 0} {a : A} → Refusal P (got a)
+pub given : {A : Type 0} {P : ℕ → ℕ → ℕ → Type 0} {a : A} → Refusal P (got a)
 given = record { holds = λ n l o e. refused-got (sym e) }
 
 -- A refusal with this number, line and offset.
-plain : {A : Type 0} {P : ℕ → ℕ → ℕ → Type 0} (n l o : ℕ) → P n l o → Refusal {A = A} P (refused n l o)
+pub plain : {A : Type 0} {P : ℕ → ℕ → ℕ → Type 0} (n l o : ℕ) → P n l o → Refusal {A = A} P (refused n l o)
 plain {P = P} n l o h = record { holds = λ n′ l′ o′ e. let a : n ≡ n′ = cc in let b : l ≡ l′ = cc in let c : o ≡ o′ = cc in rw (← a, ← b, ← c) h }
 
-weaker : {A : Type 0} {P Q : ℕ → ℕ → ℕ → Type 0} {m : Ans A} → ((n l o : ℕ) → P n l o → Q n l o) → Refusal P m → Refusal Q m
+pub weaker : {A : Type 0} {P Q : ℕ → ℕ → ℕ → Type 0} {m : Ans A} → ((n l o : ℕ) → P n l o → Q n l o) → Refusal P m → Refusal Q m
 weaker f h = record { holds = λ n l o e. f n l o (h .holds n l o e) }
 
-bind-refusal : {A B : Type 0} {P : ℕ → ℕ → ℕ → Type 0} (m : Ans A) (k : A → Ans B) → Refusal P m → ((a : A) → m ≡ got a → Refusal P (k a)) → Refusal P (m >>= k)
+pub bind-refusal : {A B : Type 0} {P : ℕ → ℕ → ℕ → Type 0} (m : Ans A) (k : A → Ans B) → Refusal P m → ((a : A) → m ≡ got a → Refusal P (k a)) → Refusal P (m >>= k)
 unfolding _>>=_
 bind-refusal (refused n l o) k f g = plain n l o (f .holds n l o refl)
 bind-refusal (got a) k f g = g a refl
 
-test-refusal : {B : Type 0} {P : ℕ → ℕ → ℕ → Type 0} (c : Bool) (n l o : ℕ) (k : Ans B) → P n l o → Refusal P k → Refusal P (test c n l o >> k)
+pub test-refusal : {B : Type 0} {P : ℕ → ℕ → ℕ → Type 0} (c : Bool) (n l o : ℕ) (k : Ans B) → P n l o → Refusal P k → Refusal P (test c n l o >> k)
 unfolding _>>_ test
 test-refusal true n l o k a f = f
 test-refusal false n l o k a f = plain n l o a
@@ -164,7 +164,7 @@ module _ (ln : ℕ) where
   unfolding fixedIn
   fixedIn-refusal L h = test-refusal _ _ _ _ _ (omega arith) (fixed-refusal L true 0 (h .body))
 
-  frameOf-refusal : (t : ℕ) → Refusal (At ln 0) (frameOf ln t)
+  pub frameOf-refusal : (t : ℕ) → Refusal (At ln 0) (frameOf ln t)
   unfolding frameOf
   frameOf-refusal t = go (eqb t (row .tag)) (eqb t conditionTag)
     where
@@ -173,7 +173,7 @@ module _ (ln : ℕ) where
       go false true = given
       go false false = plain 4 ln 0 (omega arith)
 
-  row-refusal : (p : ℕ) (h : Head) → Refusal (At ln 0) (rowIn ln p h)
+  pub row-refusal : (p : ℕ) (h : Head) → Refusal (At ln 0) (rowIn ln p h)
   unfolding rowIn
   row-refusal p h = bind-refusal _ _ (fixedIn-refusal row h) (λ v ev. test-refusal _ _ _ _ _ (omega arith) given)
 
