@@ -1,16 +1,16 @@
 -- Refusals 2, 4 and 3 of a block look at its head alone: whatever a body of the same length holds, they are the same.
-use mathlib.Core.Path.{_≡_, refl, ap, sym, _∙_}
+use mathlib.Core.Path.{_≡_}
 use mathlib.Core.Bool.{Bool, true, false}
 use mathlib.Core.List.{List}
 use Prim.Native.Nat.{ℕ, _≤_}
 use native.Mathlib.Omega.{arith}
 use lib.ListN.{length}
-use lib.Dec.{ltb, leb, eqb}
-use Rattle.rules.specs.Blocks.{Layout, size, row, ship, weather, entry}
+use lib.Dec.{ltb}
+use Rattle.rules.specs.Blocks.{Layout, row, weather, entry}
 use Rattle.rules.specs.Answers.{Ans, refused, got, test, _>>=_, _>>_}
-use Rattle.rules.specs.Walk.{Head, fixed, Tag, load, nested, tagOf, begun, blockAt, weatherAt, conditionIn, fixedIn, rowIn, Frame, aRow, aCondition, found}
-use Rattle.rules.proofs.Answers.{refused-got, bind-first, bind-got, bind-refused, test-refused, test-got}
-use Rattle.rules.proofs.Refused.{Refusal, given, weaker, plain, bind-refusal, test-refusal, inside-refusal}
+use Rattle.rules.specs.Walk.{Head, fixed, Tag, load, nested, begun, blockAt, weatherAt, conditionIn, fixedIn, rowIn, Frame, aRow, aCondition, found}
+use Rattle.rules.proofs.Answers.{bind-refused}
+use Rattle.rules.proofs.Refused.{Refusal, given, weaker, test-refusal, inside-refusal}
 
 -- Where the first is refused with 2, 4 or 3 at offset `at`, so is the second.
 pub record Light {A : Type 0} (at : ℕ) (m m′ : Ans A) : Type 0 where
@@ -24,7 +24,7 @@ heavy : {A : Type 0} {at : ℕ} {m m′ : Ans A} → Refusal (Heavy at) m → Li
 heavy h = record { same = λ n l o p q e. absurd (h .holds n l o e p q) }
 
 -- A test that comes to the same in both.
-test-light : {A : Type 0} {at : ℕ} (c : Bool) (n l o : ℕ) (k k′ : Ans A) → Light at k k′ → Light at (test c n l o >> k) (test c n l o >> k′)
+pub test-light : {A : Type 0} {at : ℕ} (c : Bool) (n l o : ℕ) (k k′ : Ans A) → Light at k k′ → Light at (test c n l o >> k) (test c n l o >> k′)
 unfolding _>>_ test
 test-light true n l o k k′ h = h
 test-light false n l o k k′ h = record { same = λ n l o p q e. e }
