@@ -1,1 +1,6 @@
 pub mod Bench
+pub mod Signed
+pub mod Rounding
+pub mod StraightLine
+pub mod Tables
+pub mod Searches
