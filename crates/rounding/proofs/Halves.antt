@@ -1,13 +1,13 @@
 -- Halving finds the greatest number that passes a test, where each number past one that fails fails too.
-use mathlib.Core.Path.{_≡_, refl, ap, sym, _∙_, subst}
+use mathlib.Core.Path.{_≡_}
 use mathlib.Core.Bool.{Bool, true, false}
-use Prim.Native.Nat.{ℕ, zero, suc, _+_, _-_, _*_, _≤_, _<_}
+use Prim.Native.Nat.{ℕ, _+_, _*_, _≤_, _<_}
 use native.Mathlib.Nat.{mul-le-mul, mul-le-mul-right}
 use native.Mathlib.Omega.{arith}
 use lib.Dec.{leb}
-use borrow.Author.Tests.{le-leb, lt-leb, leb-false}
+use borrow.Author.Tests.{lt-leb}
 use Rattle.rules.specs.Rounding.{greatest}
-use Rattle.rules.proofs.Searches.{Greatest, greatest-is, greatest-unique}
+use Rattle.rules.proofs.Searches.{greatest-is, greatest-unique}
 
 -- What is searched lies from `low`, which passes, to below `high`, from where on none passes.
 pub record Bracket (p : ℕ → Bool) (top low high : ℕ) : Type 0 where

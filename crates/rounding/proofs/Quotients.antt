@@ -1,5 +1,5 @@
 -- The machine's signed quotient and remainder by a number above zero, by the sign of what is divided: one more where there is a remainder above zero is the ceiling.
-use Prim.Native.Nat.{ℕ, zero, suc, _+_, _-_, _*_, _/_, _%_, _<_, _≤_}
+use Prim.Native.Nat.{ℕ, zero, suc, _+_, _/_, _%_, _<_, _≤_}
 use native.Mathlib.Nat.{div-le-self, div-add-mod', div-eq-of-lt-le, suc-mul, mod-lt, le-mul-of-pos-right}
 use native.Mathlib.Omega.{arith}
 use mathlib.Core.Path.{_≡_, refl, ap, sym}

@@ -1,6 +1,6 @@
 // Division with its exact rounding, the straight line between points, tables of points, and the greatest number whose square fits.
 ghost use mathlib.Core.Path.{_≡_};
-ghost use Prim.Native.Nat.{_+_, _-_, _*_, _^_, max, _≤_, _<_};
+ghost use Prim.Native.Nat.{_+_, _-_, _*_, _/_, _^_, max, _≤_, _<_};
 ghost use lib.Dec.{leb};
 ghost use lib.IntN.{pos, natAbs};
 ghost use lib.ListN.{length};
@@ -25,12 +25,12 @@ pub fn ceil_signed(a: i64, d: i64) -> i64
     if 0 < a % d { q + 1 } else { q }
 }
 
-// The straight line through two points at x, times their distance.
-fn span(x0: u64, v0: u64, x1: u64, v1: u64, x: u64) -> u64
-    requires { ⌜ Between x0 v0 x1 v1 x ⌝ }
-    ensures { λ r. ⌜ (r ≡ span (point x0 v0) (point x1 v1) x) × (r < 2 ^ 63) ⌝ }
+// The straight line through two points at x, times their distance, with `more` added before it is divided by that.
+fn line(x0: u64, v0: u64, x1: u64, v1: u64, x: u64, more: u64) -> u64
+    requires { ⌜ Between x0 v0 x1 v1 x × (more ≤ x1) ⌝ }
+    ensures { λ r. ⌜ r ≡ (span (point x0 v0) (point x1 v1) x + more) / (x1 - x0) ⌝ }
 {
-    v0 * (x1 - x) + v1 * (x - x0)
+    (v0 * (x1 - x) + v1 * (x - x0) + more) / (x1 - x0)
 }
 
 // The straight line, rounded down.
@@ -38,7 +38,7 @@ pub fn line_down(x0: u64, v0: u64, x1: u64, v1: u64, x: u64) -> u64
     requires { ⌜ Between x0 v0 x1 v1 x ⌝ }
     ensures { λ r. ⌜ r ≡ line down (point x0 v0) (point x1 v1) x ⌝ }
 {
-    span(x0, v0, x1, v1, x) / (x1 - x0)
+    line(x0, v0, x1, v1, x, 0)
 }
 
 // The straight line, rounded up.
@@ -46,7 +46,7 @@ pub fn line_up(x0: u64, v0: u64, x1: u64, v1: u64, x: u64) -> u64
     requires { ⌜ Between x0 v0 x1 v1 x ⌝ }
     ensures { λ r. ⌜ r ≡ line up (point x0 v0) (point x1 v1) x ⌝ }
 {
-    ceil(span(x0, v0, x1, v1, x), x1 - x0)
+    line(x0, v0, x1, v1, x, x1 - x0 - 1)
 }
 
 fn max(a: u64, b: u64) -> u64

@@ -1,9 +1,9 @@
 -- What each division rounds to: up, the least whole number not below the quotient; down, the greatest not above it; either side of zero.
-use mathlib.Core.Path.{_≡_, refl}
+use mathlib.Core.Path.{_≡_}
 use Prim.Native.Nat.{ℕ, suc, _+_, _-_, _*_, _/_, _≤_, _<_}
 use native.Mathlib.Omega.{arith}
 use native.Mathlib.Nat.{lt-div-mul-add, div-mul-le-self, lt-of-mul-lt-mul-right, le-antisymm}
-use lib.IntN.{ℤ, pos, negsuc, negℤ, _+ℤ_, _*ℤ_}
+use lib.IntN.{ℤ, pos, negsuc, _+ℤ_, _*ℤ_}
 use Rattle.rules.specs.Rounding.{ceil, ceilZ, Way}
 use Rattle.rules.proofs.Signed.{up, dn, Le, Lt, eq!, add≡, up-neg, dn-neg, up-mulr, dn-mulr}
 
@@ -53,6 +53,9 @@ within-oneZ q q′ d h =
 
 pub ceilingZ-least : {n : ℤ} {d : ℕ} {q : ℤ} → CeilingZ n d q → (m : ℤ) → Le n (m *ℤ pos d) → Le q m
 ceilingZ-least {n} {d} {q} c m h = within-oneZ q m d (omega (arith, add≡ n (pos d), add≡ (m *ℤ pos d) (pos d)))
+
+pub ceilingZ-from : {n : ℤ} {d : ℕ} {q : ℤ} → CeilingZ n d q → 0 < d → (m : ℤ) → Le (m *ℤ pos d) n → Le m q
+ceilingZ-from {n} {d} {q} c l m h = within-oneZ m q d (omega (arith, add≡ (q *ℤ pos d) (pos d)))
 
 -- ---- so there is one only
 pub floor-unique : {n d q q′ : ℕ} → Floor n d q → Floor n d q′ → q ≡ q′

@@ -8,6 +8,7 @@ use native.Mathlib.Nat.{max-eq-left, max-eq-right}
 use native.Mathlib.Decide.{decLe}
 use lib.Dec.{ltb, leb}
 use borrow.Author.Tests.{ltb-true, leb-true, lt-ltb, le-ltb}
+use Rattle.rules.specs.Numbers.{full}
 use Rattle.rules.specs.Rounding.{Way, up, Point, gap, span, line, onward, table}
 use Rattle.rules.specs.Roll.{X1, X2, K, S}
 use Rattle.rules.proofs.Rounding.{Rounded, rounded-unique}
@@ -61,7 +62,7 @@ module _ (way : Way) where
   step p q ps x h l m = elim (decLe (q .place) x) [
     | no n ↦ near p q ps x (omega arith)
     | yes n ↦ let z : q .place ≡ x = omega arith in
-      far p q ps x n ∙ subst (λ (x : ℕ). onward way q ps x ≡ line way p q x) z (start q ps (rest p (q ∷ ps) h) ∙ sym (line-at-second way p q (rise p q ps h)))
+        far p q ps x n ∙ subst (λ (x : ℕ). onward way q ps x ≡ line way p q x) z (start q ps (rest p (q ∷ ps) h) ∙ sym (line-at-second way p q (rise p q ps h)))
   ]
 
   -- The points before p do not matter from p on.
@@ -89,8 +90,8 @@ module _ (way : Way) where
   table-is ps h = record {
     at = λ a z p e. subst (λ (l : List Point). table way l (p .place) ≡ p .value) e (enter a z p (p .place) (o a (p ∷ z) e) (omega arith) ∙ start p z (from a (p ∷ z) (o a (p ∷ z) e)));
     amid = λ a z p q e x l m. let k = from a (p ∷ q ∷ z) (o a (p ∷ q ∷ z) e) in
-      subst (λ (l : List Point). Rounded way (span p q x) (gap p q) (table way l x)) e
-      (subst (λ (v : ℕ). Rounded way (span p q x) (gap p q) v) (sym (enter a (q ∷ z) p x (o a (p ∷ q ∷ z) e) l ∙ step p q z x k l m)) (line-rounded way p q x (rise p q z k)));
+        subst (λ (l : List Point). Rounded way (span p q x) (gap p q) (table way l x)) e
+        (subst (λ (v : ℕ). Rounded way (span p q x) (gap p q) v) (sym (enter a (q ∷ z) p x (o a (p ∷ q ∷ z) e) l ∙ step p q z x k l m)) (line-rounded way p q x (rise p q z k)));
     before = λ z p e x l. subst (λ (l : List Point). table way l x ≡ p .value) e (first z p x (o [] (p ∷ z) e) l);
     beyond = λ a p e x l. subst (λ (l : List Point). table way l x ≡ p .value) e (last a p x (o a (p ∷ []) e) l);
   }
@@ -136,12 +137,16 @@ module _ (way : Way) (low high : ℕ) where
       elim (decLe (q .place) x) [
         | yes n ↦ subst Inside (sym (far way p q ps x n)) (onward-within q ps (rest p (q ∷ ps) h) (a .1) x n)
         | no n ↦ let m : x ≤ q .place = omega arith in subst Inside (sym (near way p q ps x (omega arith)))
-          (line-from way p q (rise p q ps h) x l m low (a .0 .0) (b .0 .0), line-to way p q (rise p q ps h) x l m high (a .0 .1) (b .0 .1))
+            (line-from way p q (rise p q ps h) x l m low (a .0 .0) (b .0 .0), line-to way p q (rise p q ps h) x l m high (a .0 .1) (b .0 .1))
       ]
 
-  pub table-within : (p : Point) (ps : List Point) → inOrder (p ∷ ps) ≡ true → valuesWithin low high (p ∷ ps) ≡ true → (x : ℕ) → (low ≤ table way (p ∷ ps) x) × (table way (p ∷ ps) x ≤ high)
+  pub table-within : (ps : List Point) → full ps ≡ true → inOrder ps ≡ true → valuesWithin low high ps ≡ true → (x : ℕ) → (low ≤ table way ps x) × (table way ps x ≤ high)
   unfolding table
-  table-within p ps h v x = onward-within p ps h v (max x (p .place)) (omega arith)
+  table-within [] f h v x = absurd (never f)
+    where
+      never : _≡_ {A = Bool} false true → ⊥
+      never e = let z : _≡_ {A = ℕ} 0 1 = cc in omega arith
+  table-within (p ∷ ps) f h v x = onward-within p ps h v (max x (p .place)) (omega arith)
 
 -- ---- the tables of criterion 8
 pub X1-is : Linear up X1 (table up X1)

@@ -1,11 +1,11 @@
--- `rounding::span` meets its contract: a value of two bytes times a mass is far below 2^63. Assumes nothing.
+-- `rounding::line` meets its contract: values of two bytes times masses are far below 2^64. Assumes nothing.
 use Prim.Native.Nat.{_*_, _-_, _≤_}
 use mathlib.Core.Path.{refl}
 use native.Mathlib.Nat.{mul-le-mul}
 use native.Mathlib.Omega.{arith}
 use borrow.Author.Needs.{needs}
-use Rattle.rounding.proofs.span.Statement.{statement}
-use Rattle.rounding.proofs.span.Tie as tie
+use Rattle.rounding.proofs.line.Statement.{statement}
+use Rattle.rounding.proofs.line.Tie as tie
 
 module _ (c : tie.Start) where
   left : c .args .v0 * (c .args .x1 - c .args .x) ≤ 65_536 * 600_000_000
@@ -29,8 +29,28 @@ mul-result-2 c = omega (arith, right c)
 add-result : tie.Need-add-result
 add-result c = omega (arith, left c, right c)
 
-returns : tie.Need-returns
-returns c = (refl, omega (arith, left c, right c))
+add-result-2 : tie.Need-add-result-2
+add-result-2 c = omega (arith, left c, right c)
 
-pub span-spec : {M : Type 1} → statement M
-span-spec = tie.close (tie.spec sub-result mul-result sub-result-2 mul-result-2 add-result returns)
+sub-result-3 : tie.Need-sub-result-3
+sub-result-3 c = search needs
+
+div-result : tie.Need-div-result
+div-result c = search needs
+
+returns : tie.Need-returns
+returns c = refl
+
+pub line-spec : {M : Type 1} → statement M
+line-spec =
+    tie.close
+    (tie.spec
+    sub-result
+    mul-result
+    sub-result-2
+    mul-result-2
+    add-result
+    add-result-2
+    sub-result-3
+    div-result
+    returns)
