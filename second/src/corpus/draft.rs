@@ -119,10 +119,6 @@ impl Draft {
         &mut self.frames[last]
     }
 
-    pub fn weather(&mut self) -> &mut Block {
-        &mut self.condition().inner[0]
-    }
-
     /// The block at a path: a frame's index, then indices within blocks.
     pub fn at(&mut self, path: &[usize]) -> &mut Block {
         let mut block = &mut self.frames[path[0]];

@@ -46,6 +46,18 @@ impl Vessel {
         let km = self.kg + gm;
         self.laden().km = km;
     }
+
+    /// Another KG, with KM and KN of the laden row raised along with it so
+    /// that GM and the curve stay about the same.
+    pub fn raise_to(&mut self, kg: i128) {
+        let lift = kg - self.kg;
+        self.kg = kg;
+        let row = self.laden();
+        row.km = (row.km + lift).clamp(0, 60_000);
+        for (kn, sine) in row.kn.iter_mut().zip(SINES).skip(1) {
+            *kn = (*kn + lift * sine / 100_000).clamp(0, 29_000);
+        }
+    }
 }
 
 /// A few entries with the whole mass at one height, so that KG is that height.
