@@ -1,11 +1,11 @@
--- `roll::x1` meets its contract: the constants are the points of the rules. Assumes nothing.
+-- `roll::tables::x1` meets its contract: the constants are the points of the rules. Assumes nothing.
 use mathlib.Core.Path.{refl}
 use Rattle.rules.specs.Roll.{X1}
 use Rattle.rounding.specs.Points.{pointsOf}
 use Rattle.roll.proofs.Constants.{constant}
 use borrow.Author.Needs.{needs}
-use Rattle.roll.proofs.x1.Statement.{statement}
-use Rattle.roll.proofs.x1.Tie as tie
+use Rattle.roll.proofs.tables.x1.Statement.{statement}
+use Rattle.roll.proofs.tables.x1.Tie as tie
 
 slice-aggregate-table-up : tie.Need-slice-aggregate-table-up
 slice-aggregate-table-up c = search needs

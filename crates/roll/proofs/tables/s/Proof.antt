@@ -1,11 +1,11 @@
--- `roll::s` meets its contract: the constants are the points of the rules. Assumes nothing.
+-- `roll::tables::s` meets its contract: the constants are the points of the rules. Assumes nothing.
 use mathlib.Core.Path.{refl}
 use Rattle.rules.specs.Roll.{S}
 use Rattle.rounding.specs.Points.{pointsOf}
 use Rattle.roll.proofs.Constants.{constant}
 use borrow.Author.Needs.{needs}
-use Rattle.roll.proofs.s.Statement.{statement}
-use Rattle.roll.proofs.s.Tie as tie
+use Rattle.roll.proofs.tables.s.Statement.{statement}
+use Rattle.roll.proofs.tables.s.Tie as tie
 
 slice-aggregate-table-up : tie.Need-slice-aggregate-table-up
 slice-aggregate-table-up c = search needs

@@ -1,0 +1,21 @@
+-- `roll::tables::k` meets its contract: the constants are the points of the rules. Assumes nothing.
+use mathlib.Core.Path.{refl}
+use Rattle.rules.specs.Roll.{K}
+use Rattle.rounding.specs.Points.{pointsOf}
+use Rattle.roll.proofs.Constants.{constant}
+use borrow.Author.Needs.{needs}
+use Rattle.roll.proofs.tables.k.Statement.{statement}
+use Rattle.roll.proofs.tables.k.Tie as tie
+
+slice-aggregate-table-up : tie.Need-slice-aggregate-table-up
+slice-aggregate-table-up c = search needs
+
+table-up-requires : tie.Need-table-up-requires
+table-up-requires c κs = constant K refl
+
+returns : tie.Need-returns
+unfolding pointsOf
+returns c = c .table-up .ensures
+
+pub k-spec : {M : Type 1} → statement M
+k-spec = tie.close (tie.spec slice-aggregate-table-up table-up-requires returns)
