@@ -40,7 +40,10 @@ pub fn base(dice: &mut Dice) -> (Vessel, Draft) {
     let part = dice.between(1, vessel.mass / 4);
     let kg = vessel.kg;
     let deep = nested(2, vec![item(part, kg), tank(part, kg, 500, 1_025, 20)]);
-    let mut entries = vec![item(vessel.mass - 3 * part, kg), tank(part, kg, 990, 850, 30)];
+    let mut entries = vec![
+        item(vessel.mass - 3 * part, kg),
+        tank(part, kg, 990, 850, 30),
+    ];
     entries.extend(deep);
     let draft = vessel.draft(entries);
     (vessel, draft)
@@ -78,15 +81,26 @@ fn add_rising(cases: &mut Cases) {
 
 /// Fill 0 with and without a mass, and the fills where the free surface ends.
 fn add_tanks(cases: &mut Cases) {
-    for (fill, mass) in [(0, 0), (0, 1), (0, 600_000_000), (1, 0), (1, 5), (979, 5), (980, 5)] {
+    for (fill, mass) in [
+        (0, 0),
+        (0, 1),
+        (0, 600_000_000),
+        (1, 0),
+        (1, 5),
+        (979, 5),
+        (980, 5),
+    ] {
         for depth in [0, 4] {
-            cases.add(format!("fill {fill} mass {mass} depth {depth}"), move |dice| {
-                let vessel = vessel::judged(dice);
-                let tested = tank(mass, vessel.kg, fill, 1_025, 30);
-                let mut entries = nested(depth, vec![tested]);
-                entries.push(item((vessel.mass - mass).max(0), vessel.kg));
-                vessel.draft(entries).text()
-            });
+            cases.add(
+                format!("fill {fill} mass {mass} depth {depth}"),
+                move |dice| {
+                    let vessel = vessel::judged(dice);
+                    let tested = tank(mass, vessel.kg, fill, 1_025, 30);
+                    let mut entries = nested(depth, vec![tested]);
+                    entries.push(item((vessel.mass - mass).max(0), vessel.kg));
+                    vessel.draft(entries).text()
+                },
+            );
         }
     }
 }

@@ -2,7 +2,7 @@
 //! blocks, and sound texts with bytes and lines changed.
 
 use super::dice::Dice;
-use super::draft::Draft;
+use super::draft::{item, tank, Draft};
 use super::faults::apply_any;
 use super::load::{grouped, spread};
 use super::vessel;
@@ -12,13 +12,14 @@ use crate::layout::fields;
 const LONGEST: usize = 20_000;
 
 pub fn text(dice: &mut Dice, small: bool) -> Vec<u8> {
-    let mut text = match dice.index(20) {
-        0..=8 => sound(dice, small).text(),
-        9..=11 => windy(dice),
-        12 => valued(dice, small, true),
-        13 => valued(dice, small, false),
-        14..=15 => faulty(dice, small),
-        16..=18 => changed(dice, small),
+    let mut text = match dice.index(40) {
+        0..=17 => sound(dice, small).text(),
+        18..=22 => windy(dice),
+        23 => high(dice),
+        24..=25 => valued(dice, small, true),
+        26..=27 => valued(dice, small, false),
+        28..=32 => faulty(dice, small),
+        33..=37 => changed(dice, small),
         _ => noise(dice, small),
     };
     text.truncate(LONGEST);
@@ -29,7 +30,7 @@ fn sound(dice: &mut Dice, small: bool) -> Draft {
     let (rows, entries) = match dice.index(8) {
         _ if small => (2 + dice.index(3), 1 + dice.index(5)),
         0 => (2 + dice.index(39), 1 + dice.index(200)),
-        1 => (2 + dice.index(39), 1 + dice.index(20)),
+        1 => (2 + dice.index(39), 1 + dice.index(40)),
         _ => (2 + dice.index(8), 1 + dice.index(30)),
     };
     let vessel = vessel::any(dice, rows);
@@ -47,6 +48,17 @@ fn windy(dice: &mut Dice) -> Vec<u8> {
     let gm = dice.between(400, 2_500);
     vessel.set_gm(gm);
     let entries = spread(dice, &vessel, 3);
+    vessel.draft(grouped(dice, entries)).text()
+}
+
+/// A corrected KG around its highest.
+fn high(dice: &mut Dice) -> Vec<u8> {
+    let vessel = vessel::any(dice, 2);
+    let part = dice.between(0, vessel.mass);
+    let (one, other) = (60_000 - dice.between(0, 4), 60_000 - dice.between(0, 4));
+    let inertia = dice.between(0, vessel.mass / 250_000);
+    let surface = tank(part, other, dice.between(900, 1_000), 1_025, inertia);
+    let entries = vec![item(vessel.mass - part, one), surface];
     vessel.draft(grouped(dice, entries)).text()
 }
 
@@ -91,7 +103,11 @@ fn faulty(dice: &mut Dice, small: bool) -> Vec<u8> {
 fn changed(dice: &mut Dice, small: bool) -> Vec<u8> {
     let mut text = sound(dice, small).text();
     for _ in 0..dice.between(1, 4) {
-        text = if dice.chance(75) { byte_changed(dice, text) } else { line_changed(dice, &text) };
+        text = if dice.chance(75) {
+            byte_changed(dice, text)
+        } else {
+            line_changed(dice, &text)
+        };
     }
     text
 }
@@ -111,7 +127,13 @@ fn byte_changed(dice: &mut Dice, mut text: Vec<u8>) -> Vec<u8> {
             text.drain(place..(place + 2).min(text.len()));
         }
         4 => text.truncate(place),
-        _ => text[place] = if text[place] == b'\n' { b'\n' } else { digit(dice) },
+        _ => {
+            text[place] = if text[place] == b'\n' {
+                b'\n'
+            } else {
+                digit(dice)
+            }
+        }
     }
     text
 }
@@ -121,8 +143,10 @@ fn digit(dice: &mut Dice) -> u8 {
 }
 
 fn line_changed(dice: &mut Dice, text: &[u8]) -> Vec<u8> {
-    let mut lines: Vec<Vec<u8>> =
-        text.split_inclusive(|&c| c == b'\n').map(<[u8]>::to_vec).collect();
+    let mut lines: Vec<Vec<u8>> = text
+        .split_inclusive(|&c| c == b'\n')
+        .map(<[u8]>::to_vec)
+        .collect();
     if lines.is_empty() {
         return Vec::new();
     }

@@ -17,20 +17,30 @@ pub fn add(cases: &mut Cases) {
             text
         });
     }
-    for wrong in ["a", "f", "G", "g", "/", ":", "@", "`", " ", "\t", "\0", "\r", "x", "-"] {
+    for wrong in [
+        "a", "f", "G", "g", "/", ":", "@", "`", " ", "\t", "\0", "\r", "x", "-",
+    ] {
         add_wrong(cases, wrong.as_bytes().to_vec());
     }
     for wrong in [0x7F, 0x80, 0xC3, 0xFF] {
         add_wrong(cases, vec![wrong]);
     }
     add_lines(cases);
-    for (name, behind) in [("unended", "00"), ("empty", "\n"), ("wrong", "0a\n"), ("odd", "000\n")] {
-        cases.add(format!("ship outside its limits and the last line {name}"), move |dice| {
-            let mut text = small(dice);
-            text[6..14].copy_from_slice(b"FFFFFFFF");
-            text.extend(behind.bytes());
-            text
-        });
+    for (name, behind) in [
+        ("unended", "00"),
+        ("empty", "\n"),
+        ("wrong", "0a\n"),
+        ("odd", "000\n"),
+    ] {
+        cases.add(
+            format!("ship outside its limits and the last line {name}"),
+            move |dice| {
+                let mut text = small(dice);
+                text[6..14].copy_from_slice(b"FFFFFFFF");
+                text.extend(behind.bytes());
+                text
+            },
+        );
     }
 }
 
@@ -38,7 +48,9 @@ pub fn small(dice: &mut Dice) -> Vec<u8> {
     let mut vessel = vessel::judged(dice);
     vessel.rows.truncate(2);
     vessel.mass = vessel.rows[0].displacement;
-    vessel.draft(nested(1, vec![item(vessel.mass, vessel.kg)])).text()
+    vessel
+        .draft(nested(1, vec![item(vessel.mass, vessel.kg)]))
+        .text()
 }
 
 /// One digit anywhere gives way to another character.
@@ -60,11 +72,15 @@ fn add_lines(cases: &mut Cases) {
         ("CR LF last", |lines| lines.join("\n") + "\r\n"),
         ("no last LF", |lines| lines.join("\n")),
         ("two last LFs", |lines| lines.join("\n") + "\n\n"),
-        ("empty line first", |lines| format!("\n{}\n", lines.join("\n"))),
+        ("empty line first", |lines| {
+            format!("\n{}\n", lines.join("\n"))
+        }),
         ("empty lines between", |lines| lines.join("\n\n") + "\n"),
         ("one line only", |lines| lines.concat() + "\n"),
         ("no line end at all", |lines| lines.concat()),
-        ("lower case", |lines| (lines.join("\n") + "\n").to_lowercase()),
+        ("lower case", |lines| {
+            (lines.join("\n") + "\n").to_lowercase()
+        }),
         ("odd first line", |lines| format!("0{}\n", lines.join("\n"))),
         ("odd last line", |lines| lines.join("\n") + "0\n"),
         ("space before LF", |lines| lines.join("\n") + " \n"),

@@ -17,7 +17,10 @@ const TO_30: Search = Search {
 
 /// An odd area needs a flooding angle beside a station with an odd sine, and
 /// before 30 degrees the one at 10 is the last of these.
-const TO_15: Search = Search { flooding: (101, 149), ..TO_30 };
+const TO_15: Search = Search {
+    flooding: (101, 149),
+    ..TO_30
+};
 
 const FROM_30: Search = Search {
     flooding: (330, 430),
@@ -93,7 +96,10 @@ fn solved(dice: &mut Dice, search: &Search, wanted: i128) -> Vessel {
 pub fn crest(vessel: &mut Vessel, station: usize) {
     let kg = vessel.kg;
     let kn = &mut vessel.laden().kn;
-    let highest = (0..13).map(|at| 100_000 * kn[at] - kg * SINES[at]).max().unwrap_or(0);
+    let highest = (0..13)
+        .map(|at| 100_000 * kn[at] - kg * SINES[at])
+        .max()
+        .unwrap_or(0);
     kn[station] = (highest + kg * SINES[station]) / 100_000 + 2;
 }
 
@@ -122,18 +128,27 @@ fn add_angles(cases: &mut Cases) {
 /// Equal greatest levers at two stations: the KG is one at which the sines'
 /// difference is a whole number of millimetres.
 fn add_ties(cases: &mut Cases) {
-    for (first, second, kg) in
-        [(3, 5, 5_000), (3, 5, 10_000), (2, 6, 20_000), (5, 7, 12_500), (6, 7, 50_000), (5, 6, 0), (4, 5, 0)]
-    {
-        cases.add(format!("equal levers at stations {first} and {second}, KG {kg}"), move |dice| {
-            let mut vessel = vessel::judged(dice);
-            vessel.raise_to(kg);
-            vessel.weather.flooding = 600;
-            crest(&mut vessel, first);
-            let row = vessel.laden();
-            row.kn[second] = row.kn[first] + kg * (SINES[second] - SINES[first]) / 100_000;
-            vessel.text(dice)
-        });
+    for (first, second, kg) in [
+        (3, 5, 5_000),
+        (3, 5, 10_000),
+        (2, 6, 20_000),
+        (5, 7, 12_500),
+        (6, 7, 50_000),
+        (5, 6, 0),
+        (4, 5, 0),
+    ] {
+        cases.add(
+            format!("equal levers at stations {first} and {second}, KG {kg}"),
+            move |dice| {
+                let mut vessel = vessel::judged(dice);
+                vessel.raise_to(kg);
+                vessel.weather.flooding = 600;
+                crest(&mut vessel, first);
+                let row = vessel.laden();
+                row.kn[second] = row.kn[first] + kg * (SINES[second] - SINES[first]) / 100_000;
+                vessel.text(dice)
+            },
+        );
     }
     cases.add("all levers 0", |dice| {
         let mut vessel = vessel::judged(dice);

@@ -32,15 +32,53 @@ pub enum Fault {
 use Fault::*;
 
 const OF_FRAME: [Fault; 11] = [
-    PastParent, PastAll, OneShort, Cut(1), Cut(2), Tag, BodyShort, BodyLong, Stray(1), Empty, Value,
+    PastParent,
+    PastAll,
+    OneShort,
+    Cut(1),
+    Cut(2),
+    Tag,
+    BodyShort,
+    BodyLong,
+    Stray(1),
+    Empty,
+    Value,
 ];
 const OF_CONDITION: [Fault; 11] = [
-    PastParent, PastAll, OneShort, Cut(1), Cut(2), Tag, BodyLong, Stray(1), Stray(2), Empty, First,
+    PastParent,
+    PastAll,
+    OneShort,
+    Cut(1),
+    Cut(2),
+    Tag,
+    BodyLong,
+    Stray(1),
+    Stray(2),
+    Empty,
+    First,
 ];
-const OF_ENTRY: [Fault; 9] =
-    [PastParent, PastAll, OneLong, OneShort, Cut(1), Cut(2), Tag, BodyShort, Value];
+const OF_ENTRY: [Fault; 9] = [
+    PastParent,
+    PastAll,
+    OneLong,
+    OneShort,
+    Cut(1),
+    Cut(2),
+    Tag,
+    BodyShort,
+    Value,
+];
 const OF_GROUP: [Fault; 10] = [
-    PastParent, PastAll, OneLong, OneShort, Cut(1), Cut(2), Tag, BodyLong, Stray(2), Empty,
+    PastParent,
+    PastAll,
+    OneLong,
+    OneShort,
+    Cut(1),
+    Cut(2),
+    Tag,
+    BodyLong,
+    Stray(2),
+    Empty,
 ];
 
 fn faults_of(form: u8) -> &'static [Fault] {
@@ -74,6 +112,44 @@ pub fn add(cases: &mut Cases) {
         path.resize(depth + 1, 0);
         add_at(cases, 4, path);
     }
+    for path in [
+        vec![0],
+        vec![1],
+        vec![3],
+        vec![3, 0],
+        vec![3, 1],
+        vec![3, 1, 0],
+        vec![3, 1, 1],
+    ] {
+        add_pairs(cases, path);
+    }
+}
+
+/// Two faults of one block, of which the order 2, 4, 3, 5, 6 decides.
+const PAIRS: [(Fault, Fault); 8] = [
+    (PastAll, Tag),
+    (PastParent, Value),
+    (PastAll, Empty),
+    (Tag, BodyShort),
+    (Tag, Value),
+    (Tag, Empty),
+    (BodyLong, Value),
+    (Stray(1), Value),
+];
+
+fn add_pairs(cases: &mut Cases, path: Vec<usize>) {
+    for (one, other) in PAIRS {
+        let path = path.clone();
+        cases.add(
+            format!("faults {one:?} and {other:?} at {path:?}"),
+            move |dice| {
+                let mut draft = ladder(dice, 1);
+                apply(dice, &mut draft, &path, other);
+                apply(dice, &mut draft, &path, one);
+                draft.text()
+            },
+        );
+    }
 }
 
 fn entry_path(depth: usize, entry: usize) -> Vec<usize> {
@@ -88,7 +164,7 @@ fn entry_path(depth: usize, entry: usize) -> Vec<usize> {
 
 /// With a second fault where the nesting is least, midst and most.
 fn add_at(cases: &mut Cases, depth: usize, path: Vec<usize>) {
-    let form = ladder(&mut Dice::new(0, 0), depth).at(&path).tag;
+    let form = ladder(&mut Dice::new(0, 0), depth).at(&path).form();
     let kinds = [Second::None, Second::Before, Second::Behind];
     let alone = path.len() > 2 && depth % 2 == 1;
     for &fault in faults_of(form) {
@@ -106,7 +182,10 @@ fn ladder(dice: &mut Dice, depth: usize) -> Draft {
     vessel.rows.truncate(2);
     vessel.mass = vessel.rows[0].displacement;
     let part = vessel.mass / dice.between(3, 9);
-    let pair = vec![item(vessel.mass - 2 * part, vessel.kg), tank(part, vessel.kg, 990, 1_025, 8)];
+    let pair = vec![
+        item(vessel.mass - 2 * part, vessel.kg),
+        tank(part, vessel.kg, 990, 1_025, 8),
+    ];
     let mut entries = nested(depth, pair);
     entries.push(item(part, vessel.kg));
     vessel.draft(entries)
@@ -117,10 +196,20 @@ fn faulty(dice: &mut Dice, depth: usize, path: &[usize], fault: Fault, second: S
     let paths = draft.paths();
     let others: Vec<Vec<usize>> = match second {
         Second::None => Vec::new(),
-        Second::Before => paths.into_iter().filter(|other| other.as_slice() < path).collect(),
-        Second::Behind => paths.into_iter().filter(|other| other.as_slice() > path).collect(),
+        Second::Before => paths
+            .into_iter()
+            .filter(|other| other.as_slice() < path)
+            .collect(),
+        Second::Behind => paths
+            .into_iter()
+            .filter(|other| other.as_slice() > path)
+            .collect(),
     };
-    let other = if others.is_empty() { None } else { Some(dice.pick(&others)) };
+    let other = if others.is_empty() {
+        None
+    } else {
+        Some(dice.pick(&others))
+    };
     match (other, second) {
         (Some(other), Second::Behind) => {
             apply_any(dice, &mut draft, &other);
@@ -137,7 +226,7 @@ fn faulty(dice: &mut Dice, depth: usize, path: &[usize], fault: Fault, second: S
 
 /// Some fault of those that a block of this kind can have.
 pub fn apply_any(dice: &mut Dice, draft: &mut Draft, path: &[usize]) {
-    let form = draft.at(path).tag;
+    let form = draft.at(path).form();
     let fault = dice.pick(faults_of(form));
     apply(dice, draft, path, fault);
 }
@@ -151,7 +240,10 @@ fn room(draft: &mut Draft, path: &[usize]) -> usize {
         return draft.at(path).bytes().len().saturating_sub(3);
     }
     let parent = draft.at(parent);
-    let before: usize = parent.inner[..index].iter().map(|block| block.bytes().len()).sum();
+    let before: usize = parent.inner[..index]
+        .iter()
+        .map(|block| block.bytes().len())
+        .sum();
     parent.body().len().saturating_sub(before + 3)
 }
 
@@ -208,7 +300,7 @@ fn wrong_tag(dice: &mut Dice, right: u8, frame: bool) -> u8 {
 
 /// One value outside its limits, as near as its bytes allow or far off.
 fn spoil(dice: &mut Dice, block: &mut super::draft::Block) {
-    let Some(fields) = fields(block.tag) else {
+    let Some(fields) = fields(block.form()) else {
         return;
     };
     if block.values.len() != fields.len() {

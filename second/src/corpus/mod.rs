@@ -40,11 +40,19 @@ pub struct Cases {
 
 impl Cases {
     fn add(&mut self, name: impl Into<String>, make: impl Fn(&mut Dice) -> Vec<u8> + 'static) {
-        self.list.push(Case { name: name.into(), make: Box::new(make), long: false });
+        self.list.push(Case {
+            name: name.into(),
+            make: Box::new(make),
+            long: false,
+        });
     }
 
     fn add_long(&mut self, name: impl Into<String>, make: impl Fn(&mut Dice) -> Vec<u8> + 'static) {
-        self.list.push(Case { name: name.into(), make: Box::new(make), long: true });
+        self.list.push(Case {
+            name: name.into(),
+            make: Box::new(make),
+            long: true,
+        });
     }
 }
 
@@ -69,12 +77,24 @@ impl Corpus {
         characters::add(&mut cases);
         sizes::add(&mut cases);
         cases.list.retain(|case| !(small && case.long));
-        Corpus { seed, small, cases: cases.list }
+        Corpus {
+            seed,
+            small,
+            cases: cases.list,
+        }
+    }
+
+    /// The names of the systematic cases, in the order of their texts.
+    pub fn names(&self) -> impl Iterator<Item = &str> {
+        self.cases.iter().map(|case| case.name.as_str())
     }
 
     pub fn text(&self, number: u64) -> Vec<u8> {
         let mut dice = Dice::new(self.seed, number);
-        match usize::try_from(number).ok().and_then(|number| self.cases.get(number)) {
+        match usize::try_from(number)
+            .ok()
+            .and_then(|number| self.cases.get(number))
+        {
             Some(case) => (case.make)(&mut dice),
             None => chance::text(&mut dice, self.small),
         }

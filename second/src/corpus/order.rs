@@ -10,10 +10,10 @@ use super::Cases;
 /// one too long, and x, y, z with one byte left behind it; I, G, W, D, O
 /// frames with tags of other places; 1 and 2 lines of so many bytes.
 const WORDS: [&str; 62] = [
-    "", "S", "SR", "SRR", "SRRR", "R", "C", "RR", "RRC", "RSRC", "CSRR", "SC", "SRC", "SRRC",
-    "SS", "SSRRC", "SRSRC", "SRRSC", "SCRR", "SRCR", "SRRCS", "SRRCR", "SRRCC", "SRRCI", "SRRCD",
-    "SRRCs", "SRRCr", "SRRCc", "SRRCx", "SRRCy", "SRRCz", "SRRC1", "SRRC2", "I", "SI", "SRRI",
-    "G", "SRRG", "W", "SW", "SRRW", "D", "SRRD", "SRRO", "O", "1", "2", "S1", "S2", "SR1", "SRR1",
+    "", "S", "SR", "SRR", "SRRR", "R", "C", "RR", "RRC", "RSRC", "CSRR", "SC", "SRC", "SRRC", "SS",
+    "SSRRC", "SRSRC", "SRRSC", "SCRR", "SRCR", "SRRCS", "SRRCR", "SRRCC", "SRRCI", "SRRCD",
+    "SRRCs", "SRRCr", "SRRCc", "SRRCx", "SRRCy", "SRRCz", "SRRC1", "SRRC2", "I", "SI", "SRRI", "G",
+    "SRRG", "W", "SW", "SRRW", "D", "SRRD", "SRRO", "O", "1", "2", "S1", "S2", "SR1", "SRR1",
     "SRR2", "s", "Ss", "Sr", "Sc", "SRc", "x", "Sy", "Sz", "SRz", "SRRz",
 ];
 
@@ -48,7 +48,9 @@ fn frame(dice: &mut Dice, vessel: &mut vessel::Vessel, letter: char) -> Block {
             let entries = vessel::level(dice, vessel.rows[0].displacement, vessel.kg);
             draft::condition(&vessel.weather, entries)
         }
-        'W' => draft::condition(&vessel.weather, Vec::new()).inner.remove(0),
+        'W' => draft::condition(&vessel.weather, Vec::new())
+            .inner
+            .remove(0),
         'G' => group(vec![item(5, 5)]),
         _ => item(vessel.mass, vessel.kg),
     };

@@ -4,15 +4,17 @@
 use super::dice::Dice;
 use super::vessel::{self, Vessel};
 use super::Cases;
+use crate::book::Row;
 use crate::line::Point;
-use crate::parse::Row;
 use crate::roll::{keel_index, period, K, S, X1, X2};
 
 pub fn add(cases: &mut Cases) {
     add_proportions(cases);
     add_heights(cases);
     for n in around(&S).into_iter().chain([300]) {
-        cases.add(format!("period {n}"), move |dice| with_period(dice, n).text(dice));
+        cases.add(format!("period {n}"), move |dice| {
+            with_period(dice, n).text(dice)
+        });
     }
     for fullness in around(&X1).into_iter().chain([600, 1_500, 3_300]) {
         cases.add(format!("B over d {fullness}"), move |dice| {
@@ -45,8 +47,10 @@ pub fn add(cases: &mut Cases) {
 
 /// The points of a table, one to each side, and the middles between.
 fn around(points: &[Point]) -> Vec<i128> {
-    let mut places: Vec<i128> =
-        points.iter().flat_map(|point| [point.0 - 1, point.0, point.0 + 1]).collect();
+    let mut places: Vec<i128> = points
+        .iter()
+        .flat_map(|point| [point.0 - 1, point.0, point.0 + 1])
+        .collect();
     places.extend(points.windows(2).map(|pair| (pair[0].0 + pair[1].0) / 2));
     places.retain(|&place| place >= 0);
     places
@@ -54,9 +58,13 @@ fn around(points: &[Point]) -> Vec<i128> {
 
 /// 10 B = 35 d and one millimetre beside it, at even and odd draughts.
 fn add_proportions(cases: &mut Cases) {
-    for (draught, breadth) in
-        [(4_000, 13_999), (4_000, 14_000), (4_000, 14_001), (4_001, 14_003), (4_001, 14_004)]
-    {
+    for (draught, breadth) in [
+        (4_000, 13_999),
+        (4_000, 14_000),
+        (4_000, 14_001),
+        (4_001, 14_003),
+        (4_001, 14_004),
+    ] {
         cases.add(format!("B {breadth} at d {draught}"), move |dice| {
             let mut vessel = vessel::judged_at(dice, draught, 3_400);
             vessel.ship.breadth = breadth;
@@ -71,11 +79,14 @@ fn add_heights(cases: &mut Cases) {
     for draught in [4_000, 4_001, 4_003] {
         for tenths in [7, 15] {
             for beside in [-1, 0, 1, 2] {
-                cases.add(format!("KG {tenths}d/10 {beside:+} at d {draught}"), move |dice| {
-                    let mut vessel = vessel::judged_at(dice, draught, 2_600);
-                    vessel.raise_to(tenths * draught / 10 + beside);
-                    vessel.text(dice)
-                });
+                cases.add(
+                    format!("KG {tenths}d/10 {beside:+} at d {draught}"),
+                    move |dice| {
+                        let mut vessel = vessel::judged_at(dice, draught, 2_600);
+                        vessel.raise_to(tenths * draught / 10 + beside);
+                        vessel.text(dice)
+                    },
+                );
             }
         }
     }
@@ -136,9 +147,16 @@ fn slowest(dice: &mut Dice, gm: i128) -> Vessel {
     let (kg, kn) = (vessel.kg, vessel.laden().kn.clone());
     let km = kg + gm;
     let steady = kn.iter().zip(crate::curve::SINES);
-    let kn: Vec<i128> = steady.map(|(form, sine)| form / 10 + kg * sine / 100_000).collect();
+    let kn: Vec<i128> = steady
+        .map(|(form, sine)| form / 10 + kg * sine / 100_000)
+        .collect();
     for row in &mut vessel.rows {
-        *row = Row { displacement: row.displacement, draught: 30_000, km, kn: kn.clone() };
+        *row = Row {
+            displacement: row.displacement,
+            draught: 30_000,
+            km,
+            kn: kn.clone(),
+        };
     }
     vessel
 }

@@ -31,7 +31,9 @@ pub fn add(cases: &mut Cases) {
     });
     cases.add("no mass at all", |dice| {
         let vessel = vessel::any(dice, 2);
-        vessel.draft(vec![item(0, vessel.kg), tank(0, 1, 0, 1_000, 5)]).text()
+        vessel
+            .draft(vec![item(0, vessel.kg), tank(0, 1, 0, 1_000, 5)])
+            .text()
     });
     cases.add("mass above all rows by many entries", |dice| {
         let vessel = vessel::any(dice, 2);
@@ -39,13 +41,17 @@ pub fn add(cases: &mut Cases) {
     });
     cases.add("mass under the rows with KG too high", |dice| {
         let vessel = vessel::any(dice, 2);
-        vessel.draft(vec![item(1, 60_000), tank(0, 0, 500, 1_000, 100_000)]).text()
+        vessel
+            .draft(vec![item(1, 60_000), tank(0, 0, 500, 1_000, 100_000)])
+            .text()
     });
     cases.add("mass over the rows with KG too high", |dice| {
         let mut vessel = vessel::judged(dice);
         vessel.rows.truncate(2);
         let over = vessel.rows[1].displacement + 1;
-        vessel.draft(vec![item(over, 60_000), tank(0, 0, 500, 1_000, 100_000)]).text()
+        vessel
+            .draft(vec![item(over, 60_000), tank(0, 0, 500, 1_000, 100_000)])
+            .text()
     });
     add_slopes(cases);
     add_highest(cases);
@@ -56,9 +62,10 @@ pub fn add(cases: &mut Cases) {
 fn add_slopes(cases: &mut Cases) {
     for rising in [true, false] {
         for part in [1, 3, 50, 97, 99] {
-            cases.add(format!("rows rising {rising}, mass at {part} of 100"), move |dice| {
-                sloped(dice, rising, part)
-            });
+            cases.add(
+                format!("rows rising {rising}, mass at {part} of 100"),
+                move |dice| sloped(dice, rising, part),
+            );
         }
     }
     cases.add("rows one kilogram apart", |dice| {
@@ -91,24 +98,31 @@ fn sloped(dice: &mut Dice, rising: bool, part: i128) -> Vec<u8> {
 fn add_highest(cases: &mut Cases) {
     for beside in [-1, 0, 1] {
         for whole in [1, 2] {
-            cases.add(format!("KG 60,000 by free surface {beside:+}, {whole} m"), move |dice| {
-                highest(dice, beside, whole)
-            });
+            cases.add(
+                format!("KG 60,000 by free surface {beside:+}, {whole} m"),
+                move |dice| highest(dice, beside, whole),
+            );
         }
     }
     for (centre, kilograms) in [(59_999, 0), (59_999, 1), (60_000, 0)] {
-        cases.add(format!("KG of {centre} and {kilograms} kg higher"), move |dice| {
-            let vessel = vessel::judged(dice);
-            let rest = item(vessel.mass - kilograms, centre);
-            vessel.draft(vec![rest, item(kilograms, 60_000)]).text()
-        });
+        cases.add(
+            format!("KG of {centre} and {kilograms} kg higher"),
+            move |dice| {
+                let vessel = vessel::judged(dice);
+                let rest = item(vessel.mass - kilograms, centre);
+                vessel.draft(vec![rest, item(kilograms, 60_000)]).text()
+            },
+        );
     }
-    cases.add("KG rounded up by one kilogram a millimetre higher", |dice| {
-        let vessel = vessel::judged(dice);
-        let mut entries = level(dice, vessel.mass - 1, vessel.kg);
-        entries.push(item(1, vessel.kg + 1));
-        vessel.draft(entries).text()
-    });
+    cases.add(
+        "KG rounded up by one kilogram a millimetre higher",
+        |dice| {
+            let vessel = vessel::judged(dice);
+            let mut entries = level(dice, vessel.mass - 1, vessel.kg);
+            entries.push(item(1, vessel.kg + 1));
+            vessel.draft(entries).text()
+        },
+    );
 }
 
 /// The free surface raises KG by a whole number of millimetres, or by one
@@ -123,5 +137,7 @@ fn highest(dice: &mut Dice, beside: i128, whole: i128) -> Vec<u8> {
     vessel.rows[0].displacement = mass - lighter;
     vessel.rows[1].displacement = mass;
     let surface = tank(0, 0, dice.between(1, 979), density + beside, inertia);
-    vessel.draft(vec![group(vec![surface]), item(mass, 60_000 - whole)]).text()
+    vessel
+        .draft(vec![group(vec![surface]), item(mass, 60_000 - whole)])
+        .text()
 }

@@ -15,18 +15,41 @@ pub fn add(cases: &mut Cases) {
             vessel.text(dice)
         });
     }
+    for fault in [Fault::PastParent, Fault::BodyShort, Fault::Value] {
+        cases.add(format!("41st row {fault:?}"), move |dice| {
+            let vessel = vessel::any(dice, 41);
+            let mut draft = vessel.draft(vessel::level(dice, vessel.mass, vessel.kg));
+            apply(dice, &mut draft, &[41], fault);
+            draft.text()
+        });
+    }
     for count in [1, 2, 10, 50, 199, 200, 201] {
-        cases.add(format!("{count} entries"), move |dice| entries(dice, count).text());
+        cases.add(format!("{count} entries"), move |dice| {
+            entries(dice, count).text()
+        });
     }
     add_201st(cases);
     add_depths(cases);
     for body in [4_096, 4_097] {
-        cases.add(format!("A3 of {body}"), move |dice| full(dice, 2, body).text());
+        cases.add(format!("A3 of {body}"), move |dice| {
+            full(dice, 2, body).text()
+        });
     }
     for body in [4_095, 4_098] {
-        cases.add_long(format!("A3 of {body}"), move |dice| full(dice, 2, body).text());
+        cases.add_long(format!("A3 of {body}"), move |dice| {
+            full(dice, 2, body).text()
+        });
     }
-    cases.add("the longest sound text", |dice| full(dice, 40, 4_096).text());
+    for (name, path) in [("its C1", vec![3, 0]), ("itself", vec![3])] {
+        cases.add_long(format!("A3 of 4097 and a fault of {name}"), move |dice| {
+            let mut draft = full(dice, 2, 4_097);
+            apply(dice, &mut draft, &path, Fault::PastAll);
+            draft.text()
+        });
+    }
+    cases.add("the longest sound text", |dice| {
+        full(dice, 40, 4_096).text()
+    });
     add_characters(cases);
 }
 
@@ -45,7 +68,6 @@ fn add_201st(cases: &mut Cases) {
         Some(Fault::Tag),
         Some(Fault::BodyShort),
         Some(Fault::Value),
-        Some(Fault::Cut(2)),
     ] {
         cases.add(format!("201st entry {fault:?}"), move |dice| {
             let vessel = vessel::any(dice, 2);
@@ -56,7 +78,7 @@ fn add_201st(cases: &mut Cases) {
             draft.text()
         });
     }
-    for depth in 1..=4 {
+    for depth in [1, 4] {
         cases.add(format!("201st entry at depth {depth}"), move |dice| {
             let vessel = vessel::any(dice, 2);
             let mut entries = vec![item(vessel.mass, vessel.kg)];
@@ -67,7 +89,10 @@ fn add_201st(cases: &mut Cases) {
     }
     cases.add("a fault behind the 201st entry", |dice| {
         let mut draft = entries(dice, 200);
-        draft.condition().inner.extend([item(0, 0), item(0, 60_001)]);
+        draft
+            .condition()
+            .inner
+            .extend([item(0, 0), item(0, 60_001)]);
         draft.text()
     });
 }
@@ -77,16 +102,21 @@ fn add_depths(cases: &mut Cases) {
     for depth in 1..=6 {
         cases.add(format!("depth {depth}"), move |dice| {
             let vessel = vessel::judged(dice);
-            vessel.draft(nested(depth, vec![item(vessel.mass, vessel.kg)])).text()
+            vessel
+                .draft(nested(depth, vec![item(vessel.mass, vessel.kg)]))
+                .text()
         });
         for behind in [false, true] {
-            cases.add(format!("empty group at depth {depth}, behind {behind}"), move |dice| {
-                let vessel = vessel::judged(dice);
-                let mut entries = nested(depth, Vec::new());
-                let place = if behind { 0 } else { entries.len() };
-                entries.insert(place, item(vessel.mass, vessel.kg));
-                vessel.draft(entries).text()
-            });
+            cases.add(
+                format!("empty group at depth {depth}, behind {behind}"),
+                move |dice| {
+                    let vessel = vessel::judged(dice);
+                    let mut entries = nested(depth, Vec::new());
+                    let place = if behind { 0 } else { entries.len() };
+                    entries.insert(place, item(vessel.mass, vessel.kg));
+                    vessel.draft(entries).text()
+                },
+            );
         }
     }
     cases.add("depth 5 with a length past its parent", |dice| {
@@ -125,9 +155,8 @@ fn full(dice: &mut Dice, rows: usize, body: usize) -> Draft {
 fn filling(vessel: &Vessel, body: usize) -> Vec<Block> {
     const COUNT: usize = 200;
     let least = 15 + 9 * COUNT;
-    let fits = |tanks: &usize| {
-        body >= least + 8 * tanks && (body - least - 8 * tanks) % 3 == 0
-    };
+    let fits =
+        |tanks: &usize| body >= least + 8 * tanks && (body - least - 8 * tanks).is_multiple_of(3);
     let tanks = (0..=COUNT).rev().find(fits).unwrap_or(0);
     let mut groups = body.saturating_sub(least + 8 * tanks) / 3;
     let mut entries = Vec::new();
@@ -148,17 +177,24 @@ fn filling(vessel: &Vessel, body: usize) -> Vec<Block> {
 /// Texts of 12,000 characters and one more. No sound text is that long: the
 /// longest has 11,232.
 fn add_characters(cases: &mut Cases) {
-    cases.add("12,000 characters, A3 too long", |dice| full(dice, 40, 4_480).text());
-    cases.add("12,001 characters, A3 too long", |dice| full(dice, 39, 4_518).text());
+    cases.add("12,000 characters, A3 too long", |dice| {
+        full(dice, 40, 4_480).text()
+    });
+    cases.add("12,001 characters, A3 too long", |dice| {
+        full(dice, 39, 4_518).text()
+    });
     for total in [12_000, 12_001] {
-        cases.add_long(format!("{total} characters, a frame behind A3"), move |dice| {
-            let mut text = full(dice, 2, 3_000 + (total % 2)).text();
-            let rest = total - text.len();
-            text.extend(line(&vec![0xA2; rest / 2]));
-            text.truncate(total - 1);
-            text.push(b'\n');
-            text
-        });
+        cases.add_long(
+            format!("{total} characters, a frame behind A3"),
+            move |dice| {
+                let mut text = full(dice, 2, 3_000 + (total % 2)).text();
+                let rest = total - text.len();
+                text.extend(line(&vec![0xA2; rest / 2]));
+                text.truncate(total - 1);
+                text.push(b'\n');
+                text
+            },
+        );
         cases.add_long(format!("{total} line ends"), move |_| vec![b'\n'; total]);
     }
     cases.add_long("12,000 characters, the first line wrong", |dice| {

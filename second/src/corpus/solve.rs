@@ -39,12 +39,22 @@ pub fn area(from: i128, to: i128) -> Weights {
 }
 
 pub fn sine_sum(weights: &Weights) -> i128 {
-    weights.iter().zip(SINES).map(|(weight, sine)| weight * sine).sum()
+    weights
+        .iter()
+        .zip(SINES)
+        .map(|(weight, sine)| weight * sine)
+        .sum()
 }
 
 /// The curve whose g is the sine: its areas are the sine sums of areas.
 pub fn sine_curve() -> Curve {
-    Curve::of(&Laden { displacement: 1, kg: -1, draught: 1, km: 0, kn: vec![0; 13] })
+    Curve::of(&Laden {
+        displacement: 1,
+        kg: -1,
+        draught: 1,
+        km: 0,
+        kn: vec![0; 13],
+    })
 }
 
 fn common_divisor(a: i128, b: i128) -> i128 {
@@ -63,7 +73,9 @@ fn kn_sum(weights: &Weights, kn: &[i128], kg: i128, figure: i128, from: usize) -
         return None;
     }
     let sum: i128 = weights.iter().zip(kn).map(|(weight, kn)| weight * kn).sum();
-    let divisor = weights[from..].iter().fold(0, |all, &weight| common_divisor(all, weight));
+    let divisor = weights[from..]
+        .iter()
+        .fold(0, |all, &weight| common_divisor(all, weight));
     let missing = needed / 100_000 - sum;
     (divisor != 0 && missing % divisor == 0).then_some(missing)
 }

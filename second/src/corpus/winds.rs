@@ -38,7 +38,9 @@ pub fn add(cases: &mut Cases) {
             blow(&mut vessel, lever + beside);
             vessel.text(dice)
         });
-        cases.add(format!("net {beside:+}"), move |dice| net(dice, beside).text(dice));
+        cases.add(format!("net {beside:+}"), move |dice| {
+            net(dice, beside).text(dice)
+        });
     }
     add_none(cases);
     add_ends(cases);
@@ -67,16 +69,21 @@ const FLOODINGS: [i128; 20] = [
     0, 1, 2, 49, 50, 51, 249, 250, 251, 299, 300, 301, 399, 400, 401, 499, 500, 501, 599, 600,
 ];
 
-/// The curve and the winds on a vessel with its whole mass at KG.
+/// The curve and the winds on a laden ship.
 pub struct Sailing {
     pub curve: Curve,
     pub wind: Wind,
     pub gust: Option<Gust>,
 }
 
-pub fn sail(vessel: &Vessel) -> Option<Sailing> {
+/// A vessel under its wind, with its whole mass at KG.
+fn sail(vessel: &Vessel) -> Option<Sailing> {
     let entries = vec![super::draft::item(vessel.mass, vessel.kg)];
-    let document = document(&lines(&vessel.draft(entries).text()).ok()?).ok()?;
+    sail_text(&vessel.draft(entries).text())
+}
+
+pub fn sail_text(text: &[u8]) -> Option<Sailing> {
+    let document = document(&lines(text).ok()?).ok()?;
     let laden = laden(&document).ok()?;
     let curve = Curve::of(&laden);
     let wind = Wind::on(&document, &laden, &curve);
@@ -122,7 +129,10 @@ fn heeled(dice: &mut Dice, heel: i128) -> Vessel {
 fn steepen(vessel: &mut Vessel, station: usize) {
     let kg = vessel.kg;
     let kn = &mut vessel.laden().kn;
-    let before = (0..station).map(|at| 100_000 * kn[at] - kg * SINES[at]).max().unwrap_or(0);
+    let before = (0..station)
+        .map(|at| 100_000 * kn[at] - kg * SINES[at])
+        .max()
+        .unwrap_or(0);
     let least = (before + 8_000_000 + kg * SINES[station]) / 100_000;
     kn[station] = kn[station].max(least);
 }
@@ -149,7 +159,13 @@ fn exact_at(base: &Vessel, t: i128) -> Option<(Vessel, i128)> {
         let mut vessel = base.clone();
         vessel.kg = kg;
         let millimetres = sail(&vessel)?.curve.y(t) / Y_PER_MILLIMETRE;
-        let fits = fit(&mut vessel.laden().kn, &weights, kg, millimetres * Y_PER_MILLIMETRE, 1);
+        let fits = fit(
+            &mut vessel.laden().kn,
+            &weights,
+            kg,
+            millimetres * Y_PER_MILLIMETRE,
+            1,
+        );
         if fits && blow(&mut vessel, millimetres) && sail(&vessel)?.wind.phi0 == Some(t) {
             return Some((vessel, millimetres));
         }
@@ -193,7 +209,11 @@ fn add_ends(cases: &mut Cases) {
         cases.add(name, move |dice| {
             let mut vessel = vessel::judged(dice);
             if let Some(Sailing { curve, wind, .. }) = sail(&vessel) {
-                let lever = if of_gust { wind.gust_lever } else { wind.steady_lever };
+                let lever = if of_gust {
+                    wind.gust_lever
+                } else {
+                    wind.steady_lever
+                };
                 let met = curve.first_at_least(lever * Y_PER_MILLIMETRE, 0..=600);
                 vessel.weather.flooding = (met.unwrap_or(0) - before).max(0);
             }
@@ -204,19 +224,29 @@ fn add_ends(cases: &mut Cases) {
 
 /// Curves that fall under the gust lever and rise again, or stay under it.
 fn add_dips(cases: &mut Cases) {
-    for (dip, again) in [(4, true), (6, true), (7, false), (9, true), (10, false), (11, true)] {
-        cases.add(format!("dip at station {dip}, again {again}"), move |dice| {
-            let mut vessel = vessel::judged(dice);
-            vessel.weather.flooding = dice.pick(&[500, 550, 600]);
-            crest(&mut vessel, dip - 1);
-            let kg = vessel.kg;
-            let last = if again { dip } else { 12 };
-            for station in dip..=last {
-                let low = kg * SINES[station] / 100_000 + dice.between(-30, 30);
-                vessel.laden().kn[station] = low.clamp(0, 30_000);
-            }
-            vessel.text(dice)
-        });
+    for (dip, again) in [
+        (4, true),
+        (6, true),
+        (7, false),
+        (9, true),
+        (10, false),
+        (11, true),
+    ] {
+        cases.add(
+            format!("dip at station {dip}, again {again}"),
+            move |dice| {
+                let mut vessel = vessel::judged(dice);
+                vessel.weather.flooding = dice.pick(&[500, 550, 600]);
+                crest(&mut vessel, dip - 1);
+                let kg = vessel.kg;
+                let last = if again { dip } else { 12 };
+                let kn = &mut vessel.laden().kn[dip..=last];
+                for (kn, sine) in kn.iter_mut().zip(&SINES[dip..]) {
+                    *kn = (kg * sine / 100_000 + dice.between(-30, 30)).clamp(0, 30_000);
+                }
+                vessel.text(dice)
+            },
+        );
     }
 }
 
@@ -266,7 +296,11 @@ fn net_at(base: &Vessel, kg: i128, wanted: i128, sines: &Curve) -> Option<Vessel
         let mut tried = vessel.clone();
         tried.weather.flooding = end;
         let fits = fit(&mut tried.laden().kn, &area(start, end), kg, whole(end), 5);
-        let gust = if fits { sail(&tried).and_then(|sailing| sailing.gust) } else { None };
+        let gust = if fits {
+            sail(&tried).and_then(|sailing| sailing.gust)
+        } else {
+            None
+        };
         if gust.is_some_and(|gust| gust.net == wanted) {
             return Some(tried);
         }
