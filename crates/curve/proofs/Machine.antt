@@ -1,0 +1,28 @@
+-- Signed numbers in the machine: what fits, and that it comes back as it was.
+use mathlib.Core.Path.{_≡_, refl, sym}
+use mathlib.Core.Bool.{Bool, true, false}
+use Prim.Native.Nat.{_<_, _^_}
+use borrow.Author.Tests.{leb-true, le-ltb}
+use lib.IntN.{ℤ, pos, negsuc}
+use lib.Signed.{mag, leZ, ltZ}
+use mir.Syntax.{w64}
+use mir.Val.{SFits, toZ, ofZ}
+use mir.Facts.{toZ-ofZ}
+
+pub back : (z : ℤ) → mag z < 2 ^ 63 → toZ w64 (ofZ w64 z) ≡ z
+back z h = toZ-ofZ (record { sfits = h })
+
+-- A test of order in the machine is the test of the numbers.
+module _ (a b : ℤ) (t : Bool) (h : mag a < 2 ^ 63) (k : mag b < 2 ^ 63) where
+  pub tested-below : ltZ (toZ w64 (ofZ w64 a)) (toZ w64 (ofZ w64 b)) ≡ t → ltZ a b ≡ t
+  tested-below e = rw (back a h, back b k) at e
+
+  pub tested-within : leZ (toZ w64 (ofZ w64 a)) (toZ w64 (ofZ w64 b)) ≡ t → leZ a b ≡ t
+  tested-within e = rw (back a h, back b k) at e
+
+-- At or above is not below.
+pub at-or-above : (a b : ℤ) → leZ b a ≡ true → ltZ a b ≡ false
+at-or-above (pos a) (pos b) e = le-ltb a b (leb-true b a e)
+at-or-above (pos a) (negsuc b) e = refl
+at-or-above (negsuc a) (pos b) e = sym e
+at-or-above (negsuc a) (negsuc b) e = le-ltb b a (leb-true a b e)

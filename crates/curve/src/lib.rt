@@ -1,0 +1,2 @@
+// The curve.
+pub mod searches;
