@@ -1,2 +1,6 @@
+pub mod Areas
+pub mod Filling
 pub mod Machine
+pub mod Sizes
 pub mod Steps
+pub mod Straight

@@ -1,13 +1,16 @@
 -- Signed numbers in the machine: what fits, and that it comes back as it was.
-use mathlib.Core.Path.{_≡_, refl, sym}
+use mathlib.Core.Path.{_≡_, refl, sym, _∙_}
 use mathlib.Core.Bool.{Bool, true, false}
-use Prim.Native.Nat.{_<_, _^_}
+use Prim.Native.Nat.{ℕ, _≤_, _<_, _^_}
+use native.Mathlib.Omega.{arith}
 use borrow.Author.Tests.{leb-true, le-ltb}
-use lib.IntN.{ℤ, pos, negsuc}
+use lib.IntN.{ℤ, pos, negsuc, subℕ, natAbs, _-ℤ_}
 use lib.Signed.{mag, leZ, ltZ}
 use mir.Syntax.{w64}
 use mir.Val.{SFits, toZ, ofZ}
-use mir.Facts.{toZ-ofZ}
+use mir.Facts.{toZ-ofZ, toZ-pos}
+use Rattle.rules.proofs.Signed.{sub-is}
+use Rattle.curve.proofs.Sizes.{abs-difference, mag-abs}
 
 pub back : (z : ℤ) → mag z < 2 ^ 63 → toZ w64 (ofZ w64 z) ≡ z
 back z h = toZ-ofZ (record { sfits = h })
@@ -26,3 +29,18 @@ at-or-above (pos a) (pos b) e = le-ltb a b (leb-true b a e)
 at-or-above (pos a) (negsuc b) e = refl
 at-or-above (negsuc a) (pos b) e = sym e
 at-or-above (negsuc a) (negsuc b) e = le-ltb b a (leb-true a b e)
+
+-- The difference of two unsigned numbers, taken once, signed.
+module _ (a b : ℕ) (h : a ≤ 10 ^ 10) (k : b ≤ 10 ^ 10) where
+  signed : toZ w64 a -ℤ toZ w64 b ≡ subℕ a b
+  signed = rw (toZ-pos w64 {n = a} (omega arith), toZ-pos w64 {n = b} (omega arith)) (sub-is a b)
+
+  pub difference-fits : SFits w64 (toZ w64 a -ℤ toZ w64 b)
+  difference-fits = rw signed (record { sfits = omega (arith, mag-abs (subℕ a b), abs-difference a b) })
+
+  pub difference : toZ w64 (ofZ w64 (toZ w64 a -ℤ toZ w64 b)) ≡ subℕ a b
+  difference = toZ-ofZ difference-fits ∙ signed
+
+-- What is so near to zero comes back as near.
+pub near : (z : ℤ) (n : ℕ) → mag z < 2 ^ 63 → natAbs z ≤ n → natAbs (toZ w64 (ofZ w64 z)) ≤ n
+near z n h k = rw (back z h) k

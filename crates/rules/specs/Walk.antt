@@ -18,7 +18,6 @@ nibble ln c = cond (leb 48 c && leb c 57) (got (c - 48)) (cond (leb 65 c && leb 
 
 -- The bytes of an even number of digits.
 unfoldable pub unhex : ℕ → List ℕ → Ans (List ℕ)
-unfolding nibble _>>=_
 unhex ln [] = got []
 unhex ln (c ∷ []) = refused 1 ln 0
 unhex ln (c ∷ d ∷ s) = do
@@ -36,13 +35,11 @@ put c true p = ([], p .0 ∷ p .1)
 put c false p = (c ∷ p .0, p .1)
 
 unfoldable pub split : List ℕ → Pieces
-unfolding put
 split [] = ([], [])
 split (c ∷ t) = put c (eqb c LF) (split t)
 
 -- Each piece before an LF is a line; nothing stands after the last LF.
 unfoldable pub decode : ℕ → List ℕ → List (List ℕ) → Ans (List (List ℕ))
-unfolding unhex test _>>=_ _>>_
 decode ln (c ∷ p) [] = refused 1 ln 0
 decode ln [] [] = got []
 decode ln p (q ∷ ps) = do
@@ -53,7 +50,6 @@ decode ln p (q ∷ ps) = do
 
 -- The lines of a text, each as its bytes, the first with the number ln.
 unfoldable pub linesFrom : ℕ → List ℕ → Ans (List (List ℕ))
-unfolding split decode
 linesFrom ln t = decode ln (split t .0) (split t .1)
 
 -- ---- a block as it begins
@@ -65,7 +61,6 @@ pub record Head : Type 0 where
 
 -- 2: 'one or two bytes left where a block would begin, or a block's length runs past its parent'. s is what is left of the parent.
 unfoldable pub header : ℕ → ℕ → List ℕ → Ans Head
-unfolding num test _>>=_ _>>_
 header ln at [] = refused 2 ln at
 header ln at (t ∷ []) = refused 2 ln at
 header ln at (t ∷ a ∷ []) = refused 2 ln at
@@ -75,7 +70,6 @@ header ln at (t ∷ a ∷ b ∷ s) = do
 
 -- 3, 5, 6 of a block of fixed size. `room` says whether one more may stand here.
 unfoldable pub fixed : {A : Type 0} → ℕ → Layout A → Bool → ℕ → List ℕ → Ans A
-unfolding size ok within values num test _>>=_ _>>_
 fixed ln L room at body = do
   test (eqb (length body) (size (L .fields))) 3 ln at
   test room 5 ln at
@@ -99,7 +93,6 @@ pub data Block : Type 0 where
 
 -- 3, 5, 6 of an entry; 5 of a group: 'a fifth group depth', 'empty group'. d depths and n entries are left.
 unfoldable pub begun : ℕ → ℕ → ℕ → ℕ → List ℕ → Tag → Ans Block
-unfolding fixed test _>>=_ _>>_
 begun ln d n at body (load k) = do
   v ← fixed ln (entry k) (ltb 0 n) at body
   got (one k v)
@@ -109,7 +102,6 @@ begun ln d n at body nested = do
   got nest
 
 unfoldable pub blockAt : ℕ → ℕ → ℕ → ℕ → ℕ → List ℕ → Ans Block
-unfolding tagOf begun _>>=_
 blockAt ln d n at t body = do
   x ← tagOf ln at t
   begun ln d n at body x
@@ -120,7 +112,6 @@ Walk = ℕ → ℕ → ℕ → List ℕ → Ans Entries
 
 -- After a block: the entries inside a group against the group's own length, then those after it.
 unfoldable pub step : ℕ → Walk → ℕ → ℕ → ℕ → Head → Block → Ans Entries
-unfolding leaves _>>=_
 step ln w d n at h (one k v) = do
   r ← w d (n - 1) (at + 3 + length (h .body)) (h .rest)
   got (leaf k v r)
@@ -131,7 +122,6 @@ step ln w d n at h nest = do
 
 -- The first number counts steps down, so that the definition ends; `entries` gives it more than can be used.
 unfoldable pub walk : ℕ → ℕ → Walk
-unfolding header blockAt step _>>=_
 walk ln zero d n at s = refused 0 ln at
 walk ln (suc f) d n at [] = got end
 walk ln (suc f) d n at (x ∷ s) = do
@@ -140,27 +130,23 @@ walk ln (suc f) d n at (x ∷ s) = do
   step ln (walk ln f) d n at h b
 
 unfoldable pub entries : ℕ → Walk
-unfolding walk
 entries ln d n at s = walk ln (suc (length s)) d n at s
 
 -- ---- the condition
 -- Its first block is the weather: 4, 3, 6. It stands at offset 3.
 unfoldable pub weatherAt : ℕ → ℕ → List ℕ → Ans Weather
-unfolding fixed test _>>=_ _>>_
 weatherAt ln t body = do
   test (eqb t (weather .tag)) 4 ln 3
   fixed ln weather true 3 body
 
 -- 5: 'a C1 alone'. Otherwise the entries, of which the first stands at offset `at`.
 unfoldable pub loadAt : ℕ → ℕ → List ℕ → Ans Entries
-unfolding entries test _>>=_ _>>_
 loadAt ln at s = do
   test (full s) 5 ln 0
   entries ln mostDepth mostEntries at s
 
 -- 5: 'A3 empty'. Otherwise the weather, and the load after it.
 unfoldable pub inside : ℕ → List ℕ → Ans Condition
-unfolding header weatherAt loadAt test _>>=_ _>>_
 inside ln body = do
   test (full body) 5 ln 0
   h ← header ln 3 body
@@ -171,7 +157,6 @@ inside ln body = do
 -- ---- the frames: each a block at offset 0, whose parent is its line
 -- 3: 'a frame shorter than its line'. 5: 'A3 over 4,096'.
 unfoldable pub conditionIn : ℕ → Head → Ans Condition
-unfolding inside test _>>=_ _>>_
 conditionIn ln h = do
   test (eqb (length (h .rest)) 0) 3 ln 0
   test (leb (length (h .body)) mostBytes) 5 ln 0
@@ -179,13 +164,11 @@ conditionIn ln h = do
 
 -- A frame of fixed size: 3, 6.
 unfoldable pub fixedIn : {A : Type 0} → ℕ → Layout A → Head → Ans A
-unfolding fixed test _>>=_ _>>_
 fixedIn ln L h = do
   test (eqb (length (h .rest)) 0) 3 ln 0
   fixed ln L true 0 (h .body)
 
 unfoldable pub shipFrame : ℕ → List ℕ → Ans Ship
-unfolding header fixedIn test _>>=_ _>>_
 shipFrame ln l = do
   h ← header ln 0 l
   test (eqb (h .tag) (ship .tag)) 4 ln 0
@@ -193,7 +176,6 @@ shipFrame ln l = do
 
 -- A row; its W above the last row's, p.
 unfoldable pub rowIn : ℕ → ℕ → Head → Ans Row
-unfolding fixedIn test _>>=_ _>>_
 rowIn ln p h = do
   v ← fixedIn ln row h
   test (ltb p (v .mass)) 6 ln 0
@@ -213,7 +195,6 @@ pub data Found : Type 0 where
 
 -- 4: 'a 41st row'; 'A3 before two rows'. k rows stand before it, the last with W = p.
 unfoldable pub found : ℕ → ℕ → ℕ → Head → Frame → Ans Found
-unfolding rowIn conditionIn test _>>=_ _>>_
 found ln k p h aRow = do
   test (ltb k mostRows) 4 ln 0
   v ← rowIn ln p h
@@ -224,7 +205,6 @@ found ln k p h aCondition = do
   got (theCondition c)
 
 unfoldable pub frameAt : ℕ → ℕ → ℕ → List ℕ → Ans Found
-unfolding header frameOf found _>>=_
 frameAt ln k p l = do
   h ← header ln 0 l
   t ← frameOf ln (h .tag)
@@ -232,7 +212,6 @@ frameAt ln k p l = do
 
 -- 4: 'a frame after A3', behind its own 2.
 unfoldable pub closed : ℕ → List (List ℕ) → Ans (Unit {0})
-unfolding header _>>=_
 closed ln [] = got tt
 closed ln (l ∷ ls) = do
   h ← header ln 0 l
@@ -244,7 +223,6 @@ pub record Tail : Type 0 where
   pub condition : Condition
 
 unfoldable pub after : (ℕ → ℕ → ℕ → Ans Tail) → List (List ℕ) → ℕ → ℕ → Found → Ans Tail
-unfolding closed _>>=_
 after w ls ln k (tableRow v) = do
   x ← w (ln + 1) (k + 1) (v .mass)
   got (record { rows = v ∷ x .rows; condition = x .condition })
@@ -254,7 +232,6 @@ after w ls ln k (theCondition c) = do
 
 -- The frames left, the line of the first, the rows before it and the last one's W. 5: 'no A3', at the number of lines.
 unfoldable pub tail : List (List ℕ) → ℕ → ℕ → ℕ → Ans Tail
-unfolding frameAt after _>>=_
 tail [] ln k p = refused 5 (ln - 1) 0
 tail (l ∷ ls) ln k p = do
   f ← frameAt ln k p l
@@ -262,16 +239,15 @@ tail (l ∷ ls) ln k p = do
 
 -- 5: 'empty text'.
 unfoldable pub readFrames : List (List ℕ) → Ans Reading
-unfolding shipFrame tail _>>=_
 readFrames [] = refused 5 0 0
 readFrames (l ∷ ls) = do
   v ← shipFrame 1 l
   x ← tail ls 2 0 0
   got (record { ship = v; rows = x .rows; condition = x .condition })
 
--- A text gives a reading or a refusal.
+-- A text gives a reading or a refusal. (To unfold `read` is to unfold all of the walk; each step above unfolds alone.)
 unfoldable pub read : List ℕ → Ans Reading
-unfolding linesFrom readFrames test _>>=_ _>>_
+unfolding nibble unhex put split decode linesFrom header num fixed ok within values size tagOf begun blockAt leaves step walk entries weatherAt loadAt inside conditionIn fixedIn shipFrame rowIn frameOf found frameAt closed after tail readFrames test _>>=_ _>>_
 read t = do
   test (leb (length t) mostCharacters) 1 0 0
   ls ← linesFrom 1 t
