@@ -4,7 +4,7 @@ use mathlib.Core.Bool.{Bool, true, false}
 use Prim.Native.Nat.{ℕ, _≤_, _<_, _^_}
 use native.Mathlib.Omega.{arith}
 use borrow.Author.Tests.{leb-true, le-ltb}
-use lib.IntN.{ℤ, pos, negsuc, subℕ, natAbs, _-ℤ_}
+use lib.IntN.{ℤ, pos, negsuc, subℕ, natAbs, _+ℤ_, _-ℤ_}
 use lib.Signed.{mag, leZ, ltZ}
 use mir.Syntax.{w64}
 use mir.Val.{SFits, toZ, ofZ}
@@ -44,3 +44,17 @@ module _ (a b : ℕ) (h : a ≤ 10 ^ 10) (k : b ≤ 10 ^ 10) where
 -- What is so near to zero comes back as near.
 pub near : (z : ℤ) (n : ℕ) → mag z < 2 ^ 63 → natAbs z ≤ n → natAbs (toZ w64 (ofZ w64 z)) ≤ n
 near z n h k = rw (back z h) k
+
+-- A sum of two added to a running sum.
+module _ (s a b : ℤ) (hs : mag s < 2 ^ 63) (ha : mag a < 2 ^ 63) (hb : mag b < 2 ^ 63) (pair : mag (a +ℤ b) < 2 ^ 63) (all : mag (s +ℤ (a +ℤ b)) < 2 ^ 63) where
+  pub pair-fits : SFits w64 (toZ w64 (ofZ w64 a) +ℤ toZ w64 (ofZ w64 b))
+  pair-fits = rw (back a ha, back b hb) (record { sfits = pair })
+
+  running : toZ w64 (ofZ w64 s) +ℤ toZ w64 (ofZ w64 (toZ w64 (ofZ w64 a) +ℤ toZ w64 (ofZ w64 b))) ≡ s +ℤ (a +ℤ b)
+  running = rw (back s hs, back a ha, back b hb, back (a +ℤ b) pair)
+
+  pub running-fits : SFits w64 (toZ w64 (ofZ w64 s) +ℤ toZ w64 (ofZ w64 (toZ w64 (ofZ w64 a) +ℤ toZ w64 (ofZ w64 b))))
+  running-fits = rw running (record { sfits = all })
+
+  pub running-sum : toZ w64 (ofZ w64 (toZ w64 (ofZ w64 s) +ℤ toZ w64 (ofZ w64 (toZ w64 (ofZ w64 a) +ℤ toZ w64 (ofZ w64 b))))) ≡ s +ℤ (a +ℤ b)
+  running-sum = toZ-ofZ running-fits ∙ running

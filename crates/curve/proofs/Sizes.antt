@@ -12,7 +12,8 @@ use lib.IntN.{ℤ, pos, subℕ, natAbs, _+ℤ_, _*ℤ_}
 use lib.Signed.{mag}
 use Rattle.rules.specs.Curve.{sines, lever}
 use Rattle.rules.proofs.Signed.{abs≡, up-add, dn-add, up-mulr, dn-mulr, up-sub, dn-sub, mag-le}
-use Rattle.curve.specs.Levers.{Sized, Within, most-g, most-y, g, leversOf, straight, Holds}
+use Rattle.curve.specs.Levers.{Sized, Within, most-g, most-y, g, leversOf, straight, Holds, held, upTo}
+use Rattle.curve.proofs.Areas.{upTo-none, upTo-more}
 use Rattle.curve.proofs.Filling.{at-station}
 use Rattle.curve.proofs.Straight.{straight-lever}
 
@@ -87,3 +88,13 @@ module _ (kn : List ℕ) (kg : ℕ) (sizes : Sized kn kg) where
 
   pub curve-within : (ys : List ℤ) → Holds (lever kn kg) ys → Within most-y ys
   curve-within ys is = within-by most-y ys (λ i l. let h : i ≤ 600 = omega (arith, is .long) in rw (is .at i h) (y-within i h))
+
+-- An area is that of n strips.
+pub areas-within : (ys : List ℤ) → Within most-y ys → (n : ℕ) → natAbs (upTo (held ys) n) ≤ n * (2 * most-y)
+unfolding held
+areas-within ys small zero = rw (upTo-none (held ys)) (omega arith)
+areas-within ys small (suc n) =
+    let e : suc n ≡ n + 1 = omega arith in
+    let a = getD ys n (pos 0) in
+    let b = getD ys (n + 1) (pos 0) in
+    rw e (rw (upTo-more (held ys) n) (omega (arith, abs-add (upTo (held ys) n) (a +ℤ b), abs-add a b, small n, small (n + 1), areas-within ys small n)))
