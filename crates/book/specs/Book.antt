@@ -1,12 +1,13 @@
 -- What the plain data says, as the rules say it.
 use mathlib.Core.Path.{_≡_}
 use mathlib.Core.List.{List, map, _++_}
-use Prim.Native.Nat.{ℕ, _-_}
+use Prim.Native.Nat.{_-_}
 use lib.ListN.{length, replicate, take}
 use Rattle.rules.specs.Blocks as rules
 use Rattle.rules.specs.Layout.{Entries}
 use Rattle.rules.specs.Loading.{flat, total, mass, moment, freeSurface}
 use Rattle.rules.specs.Curve as curve
+use Rattle.rules.specs.Report as report
 use Rattle.rules.specs.Answers.{Ans, refused}
 use Rattle.book.specs.declared.Ship.{Ship}
 use Rattle.book.specs.declared.Row.{Row}
@@ -15,6 +16,7 @@ use Rattle.book.specs.declared.Weather.{Weather}
 use Rattle.book.specs.declared.Sums.{Sums}
 use Rattle.book.specs.declared.Refusal.{Refusal}
 use Rattle.book.specs.declared.Loaded.{Loaded}
+use Rattle.book.specs.declared.Judgement.{Judgement}
 
 abbrev pub shipOf : Ship → rules.Ship
 shipOf s = record { hullLength = s .length; breadth = s .breadth; keelArea = s .keel; bilge = s .bilge }
@@ -46,6 +48,10 @@ sumsOf F = record { count = length (flat F); mass = total mass (flat F); moment 
 
 abbrev pub loadedOf : Loaded → curve.Loaded
 loadedOf c = record { ship = shipOf (c .ship); weather = weatherOf (c .weather); w = c .w; kg = c .kg; draught = c .draught; km = c .km; kn = c .kn }
+
+-- A judgement as plain data: each verdict by its number.
+abbrev pub judgementOf : report.Judgement → Judgement
+judgementOf j = record { verdicts = map report.verdictNumber (j .verdicts); figures = j .figures }
 
 -- An answer that ends in this refusal.
 abbrev pub Refuses : {A : Type 0} → Ans A → Refusal → Type 0

@@ -57,3 +57,9 @@ pub struct Loaded {
     pub km: u64,
     pub kn: [u64; 13],
 }
+
+// Eight verdicts by their numbers (0 fail, 1 pass, 2 not judged, 3 refused), and eleven figures.
+pub struct Judgement {
+    pub verdicts: [u8; 8],
+    pub figures: [i64; 11],
+}

@@ -1,0 +1,159 @@
+//! Criteria 1 to 6 exactly at their limits and one beside them.
+
+use super::dice::Dice;
+use super::solve::{area, lever, Search};
+use super::vessel::{self, Vessel};
+use super::Cases;
+use crate::criteria::{AREA_30_TO_40, AREA_TO_30, AREA_TO_40, GREATEST_LEVER};
+use crate::curve::SINES;
+
+const TO_30: Search = Search {
+    flooding: (230, 330),
+    weights: |flooding| area(0, flooding.min(300)),
+    from: 1,
+    figure: 3,
+    prepare: |_| (),
+};
+
+/// An odd area needs a flooding angle beside a station with an odd sine, and
+/// before 30 degrees the one at 10 is the last of these.
+const TO_15: Search = Search {
+    flooding: (101, 149),
+    ..TO_30
+};
+
+const FROM_30: Search = Search {
+    flooding: (330, 430),
+    weights: |flooding| area(300, flooding.min(400)),
+    from: 6,
+    figure: 4,
+    prepare: |_| (),
+};
+
+const TO_40: Search = Search {
+    flooding: (310, 430),
+    weights: |flooding| area(0, flooding.min(400)),
+    from: 1,
+    figure: 5,
+    prepare: |_| (),
+};
+
+const GREATEST: Search = Search {
+    flooding: (300, 399),
+    weights: lever,
+    from: 1,
+    figure: 6,
+    prepare: lowered,
+};
+
+/// Levers that rise past 0.20 m between 35 and 40 degrees.
+fn lowered(vessel: &mut Vessel) {
+    let kg = vessel.kg;
+    let row = vessel.laden();
+    for (station, lever) in [(6, 120), (7, 150), (8, 260)] {
+        row.kn[station] = kg * SINES[station] / 100_000 + lever;
+    }
+}
+
+pub fn add(cases: &mut Cases) {
+    for (number, exact, beside, limit) in [
+        (1, &TO_30, &TO_15, AREA_TO_30),
+        (2, &FROM_30, &FROM_30, AREA_30_TO_40),
+        (3, &TO_40, &TO_40, AREA_TO_40),
+        (4, &GREATEST, &GREATEST, GREATEST_LEVER),
+    ] {
+        for (search, off) in [(beside, -1), (exact, 0), (beside, 1)] {
+            cases.add(format!("criterion {number} limit {off:+}"), move |dice| {
+                let vessel = solved(dice, search, limit + off);
+                vessel.text(dice)
+            });
+        }
+    }
+    for gm in [-1, 0, 1, 149, 150, 151] {
+        cases.add(format!("GM {gm}"), move |dice| {
+            let mut vessel = vessel::judged(dice);
+            vessel.set_gm(gm);
+            vessel.text(dice)
+        });
+    }
+    add_angles(cases);
+    add_ties(cases);
+}
+
+/// The first of the seed's vessels that can be solved for.
+fn solved(dice: &mut Dice, search: &Search, wanted: i128) -> Vessel {
+    let mut vessel = vessel::judged(dice);
+    for _ in 0..20 {
+        if let Some(found) = search.vessel(dice, &vessel, wanted) {
+            return found;
+        }
+        vessel = vessel::judged(dice);
+    }
+    vessel
+}
+
+/// Raises KN at a station until its lever is the greatest of all.
+pub fn crest(vessel: &mut Vessel, station: usize) {
+    let kg = vessel.kg;
+    let kn = &mut vessel.laden().kn;
+    let highest = (0..13)
+        .map(|at| 100_000 * kn[at] - kg * SINES[at])
+        .max()
+        .unwrap_or(0);
+    kn[station] = (highest + kg * SINES[station]) / 100_000 + 2;
+}
+
+/// Angles of the greatest lever at 250 and on both sides of it, by a crest
+/// at a station and by a flooding angle on a rising curve.
+fn add_angles(cases: &mut Cases) {
+    for station in [4, 5, 6, 12] {
+        cases.add(format!("crest at station {station}"), move |dice| {
+            let mut vessel = vessel::judged(dice);
+            vessel.weather.flooding = 600;
+            crest(&mut vessel, station);
+            vessel.text(dice)
+        });
+    }
+    for (flooding, station) in [(249, 5), (250, 5), (251, 6), (250, 6)] {
+        let name = format!("flooding at {flooding} before a crest at station {station}");
+        cases.add(name, move |dice| {
+            let mut vessel = vessel::judged(dice);
+            vessel.weather.flooding = flooding;
+            crest(&mut vessel, station);
+            vessel.text(dice)
+        });
+    }
+}
+
+/// Equal greatest levers at two stations: the KG is one at which the sines'
+/// difference is a whole number of millimetres.
+fn add_ties(cases: &mut Cases) {
+    for (first, second, kg) in [
+        (3, 5, 5_000),
+        (3, 5, 10_000),
+        (2, 6, 20_000),
+        (5, 7, 12_500),
+        (6, 7, 50_000),
+        (5, 6, 0),
+        (4, 5, 0),
+    ] {
+        cases.add(
+            format!("equal levers at stations {first} and {second}, KG {kg}"),
+            move |dice| {
+                let mut vessel = vessel::judged(dice);
+                vessel.raise_to(kg);
+                vessel.weather.flooding = 600;
+                crest(&mut vessel, first);
+                let row = vessel.laden();
+                row.kn[second] = row.kn[first] + kg * (SINES[second] - SINES[first]) / 100_000;
+                vessel.text(dice)
+            },
+        );
+    }
+    cases.add("all levers 0", |dice| {
+        let mut vessel = vessel::judged(dice);
+        vessel.kg = 0;
+        vessel.laden().kn = vec![0; 13];
+        vessel.text(dice)
+    });
+}
