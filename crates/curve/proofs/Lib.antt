@@ -1,5 +1,7 @@
 pub mod Areas
 pub mod Filling
+pub mod Interpolation
+pub mod Limits
 pub mod Machine
 pub mod Rows
 pub mod Sizes

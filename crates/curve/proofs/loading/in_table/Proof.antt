@@ -1,4 +1,5 @@
-use Rattle.curve.proofs.Rows.{at, in-table-at}
+use Rattle.curve.specs.Interpolation.{rowAt}
+use Rattle.curve.proofs.Rows.{in-table-at}
 use borrow.Author.Tests.{le-leb, lt-leb}
 use borrow.Author.Needs.{needs}
 use Rattle.curve.proofs.loading.in_table.Statement.{statement}
@@ -26,13 +27,13 @@ element-copy-out-highest c = search needs
 returns : tie.Need-returns
 returns c =
     let s = c .before .before .before .before .before in
-    rw (in-table-at (s .args .t1) (s .args .w) (s .pre), le-leb (at (s .args .t1) 0 .mass) (s .args .w) (c .before .if1 .taken))
+    rw (in-table-at (s .args .t1) (s .args .w) (s .pre), le-leb (rowAt (s .args .t1) 0 .mass) (s .args .w) (c .before .if1 .taken))
 
 -- src/loading.rt:27:1
 returns-2 : tie.Need-returns-2
 returns-2 c =
     let s = c .before .before .before .before in
-    rw (in-table-at (s .args .t1) (s .args .w) (s .pre), lt-leb (at (s .args .t1) 0 .mass) (s .args .w) (c .if1 .left))
+    rw (in-table-at (s .args .t1) (s .args .w) (s .pre), lt-leb (rowAt (s .args .t1) 0 .mass) (s .args .w) (c .if1 .left))
 
 pub in-table-spec : {M : Type 1} → statement M
 in-table-spec =
