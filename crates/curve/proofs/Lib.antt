@@ -8,3 +8,5 @@ pub mod Sizes
 pub mod Steps
 pub mod Straight
 pub mod Weighing
+pub mod Soundness
+pub mod Fairness

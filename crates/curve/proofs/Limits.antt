@@ -36,13 +36,13 @@ limited (f ∷ fs) (x ∷ v) e =
     here h k r zero = (h, k)
     here h k r (suc i) = r i
 
-pub within-all : (fs : List Field) (v : List ℕ) → Limited fs v → within fs v ≡ true
+pub within-all : (fs : List Field) (v : List ℕ) → length v ≡ length fs → ((i : ℕ) → i < length fs → Inside (fieldAt fs i) (getD v i 0)) → within fs v ≡ true
 unfolding within
-within-all [] [] l = refl
-within-all [] (x ∷ v) l = absurd (omega (arith, l .long))
-within-all (f ∷ fs) [] l = absurd (omega (arith, l .long))
-within-all (f ∷ fs) (x ∷ v) l =
-    rw (le-leb (f .low) x (l .each 0 .0), le-leb x (f .high) (l .each 0 .1), within-all fs v (record { long = omega (arith, l .long); each = λ i. l .each (suc i) }))
+within-all [] [] long each = refl
+within-all [] (x ∷ v) long each = absurd (omega arith)
+within-all (f ∷ fs) [] long each = absurd (omega arith)
+within-all (f ∷ fs) (x ∷ v) long each =
+    rw (le-leb (f .low) x (each 0 (omega arith) .0), le-leb x (f .high) (each 0 (omega arith) .1), within-all fs v (omega arith) (λ i l. each (suc i) (omega arith)))
 
 pub ok-limited : {A : Type 0} (L : Layout A) (a : A) → ok L a ≡ true → Limited (L .fields) (L .listed a)
 unfolding ok
