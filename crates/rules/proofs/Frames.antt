@@ -5,17 +5,17 @@ use mathlib.Core.List.{List, [], _∷_, _++_, append-nil}
 use Prim.Native.Nat.{ℕ, _+_, _-_, _≤_, _<_}
 use native.Mathlib.Omega.{arith}
 use lib.ListN.{length}
-use lib.Dec.{ltb, leb, eqb}
+use lib.Dec.{eqb}
 use borrow.Author.Tests.{ltb-true, leb-true, eqb-true, lt-ltb, le-leb}
 use Rattle.rules.specs.Numbers.{Bytes}
 use Rattle.rules.specs.Text.{Lines}
 use Rattle.rules.specs.Blocks.{block, spellValues, Layout, ok, spellBlock, Ship, ship, Row, row, conditionTag}
 use Rattle.rules.specs.Layout.{Condition, Reading, spellCondition, rowFrames, frames, Rising, fewestRows, mostRows, mostBytes, ConditionLimits}
-use Rattle.rules.specs.Answers.{Ans, refused, got}
-use Rattle.rules.specs.Walk.{Head, header, conditionIn, fixedIn, shipFrame, rowIn, Frame, aRow, aCondition, frameOf, Found, tableRow, theCondition, found, frameAt, closed, Tail, after, tail, readFrames}
+use Rattle.rules.specs.Answers.{Ans, refused, got, _>>=_}
+use Rattle.rules.specs.Walk.{Head, header, inside, conditionIn, fixedIn, shipFrame, rowIn, Frame, aRow, aCondition, frameOf, Found, tableRow, theCondition, found, frameAt, closed, Tail, after, tail, readFrames}
 use Rattle.rules.proofs.Answers.{refused-got, bind-inv, test-inv, bind-got, test-got}
 use Rattle.rules.proofs.Fields.{Lawful, length-fits, ship-lawful, row-lawful}
-use Rattle.rules.proofs.Heads.{full-block, Bytes-block, Bytes-fixed, header-sound, header-got, fixed-sound, fixed-got}
+use Rattle.rules.proofs.Heads.{Bytes-block, Bytes-fixed, header-sound, header-got, fixed-sound, fixed-got}
 use Rattle.rules.proofs.Conditions.{Bytes-condition, inside-sound, inside-got}
 
 -- ---- a frame that fills its line
@@ -157,21 +157,32 @@ readFrames-sound (l ∷ ls) r B e =
     })
 
 -- ---- complete
+-- The ship's frame, a row's and the condition's, where they are within their limits.
+pub ship-got : (ln : ℕ) (v : Ship) → ok ship v ≡ true → shipFrame ln (spellBlock ship v) ≡ got v
+unfolding shipFrame spellBlock
+ship-got ln v e = bind-got _ (frame-got ln (ship .tag) (spellValues (ship .fields) (ship .listed v)) (length-fits ship ship-lawful v e)) ∙ test-got _ _ _ _ refl ∙ fixedIn-got ln ship ship-lawful v e
+
+pub tail-row : (v : Row) (ls : List (List ℕ)) (ln k p : ℕ) → ok row v ≡ true → p < v .mass → k < mostRows
+    → tail (spellBlock row v ∷ ls) ln k p ≡ (tail ls (ln + 1) (k + 1) (v .mass) >>= λ x. got (record { rows = v ∷ x .rows; condition = x .condition }))
+unfolding tail frameAt frameOf found rowIn after spellBlock
+tail-row v ls ln k p e r m =
+    bind-got _ (bind-got _ (frame-got ln (row .tag) (spellValues (row .fields) (row .listed v)) (length-fits row row-lawful v e)) ∙ bind-got _ refl
+    ∙ test-got _ _ _ _ (lt-ltb k mostRows m) ∙ bind-got _ (bind-got _ (fixedIn-got ln row row-lawful v e) ∙ test-got _ _ _ _ (lt-ltb p (v .mass) r)))
+
+pub condition-frame : (ln k p : ℕ) (body : List ℕ) → fewestRows ≤ k → length body ≤ mostBytes → frameAt ln k p (block conditionTag body) ≡ (inside ln body >>= λ c. got (theCondition c))
+unfolding frameAt frameOf found conditionIn
+condition-frame ln k p body h l =
+    bind-got _ (frame-got ln conditionTag body (omega arith)) ∙ bind-got _ refl ∙ test-got _ _ _ _ (le-leb fewestRows k h)
+    ∙ ap (_>>= λ c. got (theCondition c)) (test-got _ _ _ _ refl ∙ test-got _ _ _ _ (le-leb _ _ l))
+
 tail-got : (vs : List Row) (c : Condition) (ln k p : ℕ) → Rising p vs → fewestRows ≤ k + length vs → length vs ≤ mostRows - k → ConditionLimits c → tail (rowFrames vs c) ln k p ≡ got (record { rows = vs; condition = c })
-unfolding tail rowFrames spellBlock Rising frameAt found after rowIn conditionIn frameOf closed
-tail-got [] c ln k p R a b l =
-    bind-got _ (bind-got _ (frame-got ln conditionTag (spellCondition c) (omega (arith, l .long))) ∙ bind-got _ refl
-    ∙ test-got _ _ _ _ (le-leb fewestRows k (omega arith)) ∙ bind-got _ (test-got _ _ _ _ refl ∙ test-got _ _ _ _ (le-leb _ _ (l .long)) ∙ inside-got ln c l)) ∙ bind-got _ refl
-tail-got (v ∷ vs) c ln k p R a b l =
-    bind-got _ (bind-got _ (frame-got ln (row .tag) (spellValues (row .fields) (row .listed v)) (length-fits row row-lawful v (R .0))) ∙ bind-got _ refl
-    ∙ test-got _ _ _ _ (lt-ltb k mostRows (omega arith)) ∙ bind-got _ (bind-got _ (fixedIn-got ln row row-lawful v (R .0)) ∙ test-got _ _ _ _ (lt-ltb p (v .mass) (R .1))))
-    ∙ bind-got _ (tail-got vs c (ln + 1) (k + 1) (v .mass) (R .2) (omega arith) (omega arith) l)
+unfolding rowFrames Rising tail after closed
+tail-got [] c ln k p R a b l = bind-got _ (condition-frame ln k p (spellCondition c) (omega arith) (l .long) ∙ bind-got _ (inside-got ln c l)) ∙ bind-got _ refl
+tail-got (v ∷ vs) c ln k p R a b l = tail-row v (rowFrames vs c) ln k p (R .0) (R .1) (omega arith) ∙ bind-got _ (tail-got vs c (ln + 1) (k + 1) (v .mass) (R .2) (omega arith) (omega arith) l)
 
 pub readFrames-got : (r : Reading) → Framed r (frames r) → readFrames (frames r) ≡ got r
-unfolding readFrames shipFrame frames spellBlock
-readFrames-got r F =
-    bind-got _ (bind-got _ (frame-got 1 (ship .tag) (spellValues (ship .fields) (ship .listed (r .ship))) (length-fits ship ship-lawful (r .ship) (F .hull))) ∙ test-got _ _ _ _ refl ∙ fixedIn-got 1 ship ship-lawful (r .ship) (F .hull))
-    ∙ bind-got _ (tail-got (r .rows) (r .condition) 2 0 0 (F .rising) (omega (arith, F .few)) (omega (arith, F .many)) (F .loaded))
+unfolding readFrames frames
+readFrames-got r F = bind-got _ (ship-got 1 (r .ship) (F .hull)) ∙ bind-got _ (tail-got (r .rows) (r .condition) 2 0 0 (F .rising) (omega (arith, F .few)) (omega (arith, F .many)) (F .loaded))
 
 -- What is spelled is lines.
 Lines-rows : (vs : List Row) (c : Condition) (p : ℕ) → Rising p vs → ConditionLimits c → Lines (rowFrames vs c)

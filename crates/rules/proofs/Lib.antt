@@ -1,4 +1,3 @@
-pub mod Bench
 pub mod Numbers
 pub mod Answers
 pub mod Fields
@@ -11,6 +10,11 @@ pub mod Whole
 pub mod Refused
 pub mod Fuel
 pub mod Sums
+pub mod Parts
+pub mod Ways
+pub mod FrameWays
+pub mod Inside
+pub mod Overrun
 pub mod Signed
 pub mod Rounding
 pub mod StraightLine
@@ -18,4 +22,17 @@ pub mod Tables
 pub mod Rows
 pub mod Searches
 pub mod Roll
+pub mod Divisions
 pub mod Ranges
+pub mod Drawing
+pub mod Fair
+pub mod Levers
+pub mod Areas
+pub mod Angles
+pub mod Edges
+pub mod Counts
+pub mod Verdicts
+pub mod Cases
+pub mod Bench
+pub mod Slips
+pub mod Within

@@ -8,7 +8,7 @@ use lib.Dec.{ltb, leb, eqb}
 use borrow.Author.Tests.{ltb-true, ltb-false, leb-true, eqb-true, lt-ltb, le-ltb, le-leb, lt-leb, ne-eqb}
 use Rattle.rules.specs.Numbers.{Bytes}
 use Rattle.rules.specs.Text.{LF, digit, hex, text, Lines}
-use Rattle.rules.specs.Answers.{Ans, refused, got}
+use Rattle.rules.specs.Answers.{refused, got}
 use Rattle.rules.specs.Walk.{nibble, unhex, Pieces, put, split, decode, linesFrom}
 use Rattle.rules.proofs.Answers.{refused-got, bind-inv, test-inv, bind-got, test-got}
 use Rattle.rules.proofs.Fields.{both-true}

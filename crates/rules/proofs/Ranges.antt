@@ -6,16 +6,26 @@ use native.Mathlib.Omega.{arith}
 use native.Mathlib.Nat.{mul-le-mul, mul-le-mul-left, div-mul-le-self, div-lt-iff-lt-mul}
 use lib.Dec.{leb, ltb, eqb}
 use lib.IntN.{ℤ, pos, negℤ, negsuc, subℕ, natAbs, _+ℤ_, _*ℤ_}
-use borrow.Author.Tests.{leb-false, ltb-false}
+use borrow.Author.Tests.{leb-false, ltb-false, lt-leb, le-ltb}
 use Rattle.rules.specs.Rounding.{ceil, ceilZ, Way, table}
 use Rattle.rules.specs.Curve.{Loaded}
 use Rattle.rules.specs.Roll.{b, C, q, period, longestPeriod, X1, X2, K, S, keelIndex, k, x1, x2, s, p, r, rOf, phi1, notJudged}
 use Rattle.rules.proofs.Signed.{Le, add≡, sub≡, up-neg, dn-neg, up-mull, dn-mull}
 use Rattle.rules.proofs.Rounding.{CeilingZ, ceil-is, ceiling-least, ceilZ-is, ceilingZ-least, ceilingZ-from}
-use Rattle.rules.proofs.Tables.{table-within}
+use Rattle.rules.proofs.Tables.{table-within, X1-is, X2-is, S-is}
+use Rattle.rules.proofs.Divisions.{x1-up, x2-up, s-up}
 use Rattle.rules.proofs.Roll.{Period, period-is, Roll, greatestRoll, phi1-is}
 
 -- ---- the factors, of any loading
+pub x1-range : (c : Loaded) → (800 ≤ x1 c) × (x1 c ≤ 1000)
+x1-range c = rw (x1-up c (table Way.up X1) X1-is) (table-within Way.up 800 1000 X1 refl refl refl (b c))
+
+pub x2-range : (c : Loaded) → (750 ≤ x2 c) × (x2 c ≤ 1000)
+x2-range c = rw (x2-up c (table Way.up X2) X2-is) (table-within Way.up 750 1000 X2 refl refl refl (c .weather .cb))
+
+pub s-range : (c : Loaded) → (350 ≤ s c) × (s c ≤ 1000)
+s-range c = rw (s-up c (table Way.up S) S-is) (table-within Way.up 350 1000 S refl refl refl (period c))
+
 pub k-range : (c : Loaded) → (700 ≤ k c) × (k c ≤ 1000)
 unfolding k
 k-range c = go (eqb (c .ship .bilge) 1)
@@ -23,18 +33,6 @@ k-range c = go (eqb (c .ship .bilge) 1)
     go : (sharp : Bool) → (700 ≤ elim sharp [ true ↦ 700 | false ↦ table Way.up K (keelIndex (c .ship)) ]) × (elim sharp [ true ↦ 700 | false ↦ table Way.up K (keelIndex (c .ship)) ] ≤ 1000)
     go true = (omega arith, omega arith)
     go false = table-within Way.up 700 1000 K refl refl refl (keelIndex (c .ship))
-
-pub x1-range : (c : Loaded) → (800 ≤ x1 c) × (x1 c ≤ 1000)
-unfolding x1
-x1-range c = table-within Way.up 800 1000 X1 refl refl refl (b c)
-
-pub x2-range : (c : Loaded) → (750 ≤ x2 c) × (x2 c ≤ 1000)
-unfolding x2
-x2-range c = table-within Way.up 750 1000 X2 refl refl refl (c .weather .cb)
-
-pub s-range : (c : Loaded) → (350 ≤ s c) × (s c ≤ 1000)
-unfolding s
-s-range c = table-within Way.up 350 1000 S refl refl refl (period c)
 
 pub p-range : (c : Loaded) → p c ≤ 1000
 unfolding p
@@ -49,9 +47,9 @@ pub record Judged (c : Loaded) : Type 0 where
   pub beam : 10 * c .ship .breadth < 35 * c .draught
   pub kgFrom : 7 * c .draught ≤ 10 * c .kg
   pub kgTo : 10 * c .kg ≤ 15 * c .draught
-  pub swift : period c < longestPeriod
+  pub swift : period c < 2_000
 
-neither : (a b : Bool) → a || b ≡ false → (a ≡ false) × (b ≡ false)
+pub neither : (a b : Bool) → a || b ≡ false → (a ≡ false) × (b ≡ false)
 neither true b e = let z : _≡_ {A = ℕ} 0 1 = cc in absurd (omega arith)
 neither false b e = (refl, e)
 
@@ -74,6 +72,10 @@ judged c h =
         let m = neither (v || w) x (l .0) in
         let n = neither v w (m .0) in
         (n .0, n .1, m .1, l .1, k .1)
+
+pub judged-where : (c : Loaded) → Judged c → notJudged c ≡ false
+unfolding notJudged
+judged-where c j = rw (lt-leb (c .km) (c .kg) (j .gm), lt-leb (35 * c .draught) (10 * c .ship .breadth) (j .beam), le-ltb (10 * c .kg) (7 * c .draught) (j .kgFrom), le-ltb (15 * c .draught) (10 * c .kg) (j .kgTo), lt-leb longestPeriod (period c) (j .swift))
 
 module _ (c : Loaded) (j : Judged c) where
   draught-pos : 0 < c .draught

@@ -2,20 +2,21 @@
 use mathlib.Core.Path.{_≡_, refl, ap, ap₂, sym, _∙_}
 use mathlib.Core.Bool.{Bool, true, false, cond}
 use mathlib.Core.List.{List, [], _∷_, _++_}
-use Prim.Native.Nat.{ℕ, zero, suc, _+_, _-_, max, _≤_, _<_}
+use Prim.Native.Nat.{ℕ, zero, suc, _+_, _-_, _≤_, _<_}
 use native.Mathlib.Omega.{arith}
 use lib.ListN.{length}
 use lib.Dec.{ltb, eqb}
 use borrow.Author.Tests.{ltb-true, eqb-true, lt-ltb}
 use Rattle.rules.specs.Numbers.{Bytes, full}
-use Rattle.rules.specs.Blocks.{block, spellValues, ok, spellBlock, item, tank, entry, groupTag}
+use Rattle.rules.specs.Blocks.{block, spellValues, ok, spellBlock, Load, item, tank, Values, entry, groupTag}
 use Rattle.rules.specs.Layout.{Entries, end, leaf, group, spell, leaves, depth, some, Good}
-use Rattle.rules.specs.Answers.{Ans, refused, got, _>>=_}
-use Rattle.rules.specs.Walk.{Head, header, Tag, load, nested, tagOf, Block, one, nest, begun, blockAt, Walk, step, walk}
+use Rattle.rules.specs.Answers.{refused, got}
+use Rattle.rules.specs.Walk.{Head, Tag, load, nested, tagOf, Block, one, nest, begun, blockAt, Walk, step, walk, entries}
 use Rattle.rules.proofs.Numbers.{Bytes-append}
 use Rattle.rules.proofs.Answers.{refused-got, bind-inv, test-inv, bind-got, test-got}
 use Rattle.rules.proofs.Fields.{entry-lawful}
-use Rattle.rules.proofs.Heads.{length-block, Bytes-block, Bytes-fixed, header-sound, header-got, fixed-sound, fixed-got}
+use Rattle.rules.proofs.Heads.{length-block, Bytes-block, Bytes-fixed, header-sound, fixed-sound, fixed-got}
+use Rattle.rules.proofs.Fuel.{entries-none, entries-block}
 
 -- ---- what is spelled
 -- A group is empty when its bytes are.
@@ -25,7 +26,7 @@ full-spell end = refl
 full-spell (leaf k v r) = refl
 full-spell (group g r) = refl
 
-pub length-leaf : (k : _) (v : _) (r : Entries) → length (spell (leaf k v r)) ≡ 3 + length (spellValues (entry k .fields) (entry k .listed v)) + length (spell r)
+pub length-leaf : (k : Load) (v : Values k) (r : Entries) → length (spell (leaf k v r)) ≡ 3 + length (spellValues (entry k .fields) (entry k .listed v)) + length (spell r)
 unfolding spell spellBlock
 length-leaf k v r = length-block (entry k .tag) (spellValues (entry k .fields) (entry k .listed v)) (spell r)
 
@@ -110,7 +111,7 @@ module _ (ln : ℕ) where
         many = omega (arith, g .many, r .many);
       })
 
-  pub walk-sound : (f : ℕ) → Sound (walk ln f)
+  walk-sound : (f : ℕ) → Sound (walk ln f)
   unfolding walk spell Good depth leaves
   walk-sound zero d n at s F B e = refused-got e
   walk-sound (suc f) d n at [] F B e = let q : end ≡ F = cc in rw (← q) (record { spells = refl; good = tt; deep = omega arith; many = omega arith })
@@ -121,6 +122,10 @@ module _ (ln : ℕ) where
       let p = step-sound (walk ln f) (walk-sound f) d n at (a .0) (b .0) F (h .1) (h .2) (block-sound d n at (a .0) (b .0) (h .1) (b .1)) (b .2) in
       record { spells = p .spells ∙ h .0; good = p .good; deep = p .deep; many = p .many }
 
+  pub entries-sound : Sound (entries ln)
+  unfolding entries
+  entries-sound d n at s = walk-sound (suc (length s)) d n at s
+
   -- ---- complete
   tagOf-got : (at : ℕ) (x : Tag) → tagOf ln at (code x) ≡ got x
   unfolding tagOf
@@ -128,29 +133,25 @@ module _ (ln : ℕ) where
   tagOf-got at (load tank) = refl
   tagOf-got at nested = refl
 
-  -- The walk at the end, and at a block that is spelled.
-  walk-none : (f d n at : ℕ) → walk ln (suc f) d n at [] ≡ got end
-  unfolding walk
-  walk-none f d n at = refl
+  -- An entry within its limits, and a group with something in it, pass their tests.
+  pub entry-passes : (d n at : ℕ) (k : Load) (v : Values k) → 0 < n → ok (entry k) v ≡ true → blockAt ln d n at (entry k .tag) (spellValues (entry k .fields) (entry k .listed v)) ≡ got (one k v)
+  unfolding blockAt begun
+  entry-passes d n at k v h e = bind-got _ (tagOf-got at (load k)) ∙ bind-got _ (fixed-got ln at (entry k) (entry-lawful k) (ltb 0 n) v (lt-ltb 0 n h) e)
 
-  walk-block : (f d n at t : ℕ) (body rest : List ℕ) → length body < 65_536
-      → walk ln (suc f) d n at (block t body ++ rest) ≡ (blockAt ln d n at t body >>= step ln (walk ln f) d n at (record { tag = t; body = body; rest = rest }))
-  unfolding walk block
-  walk-block f d n at t body rest l = bind-got (λ h. blockAt ln d n at (h .tag) (h .body) >>= step ln (walk ln f) d n at h) (header-got ln at t body rest l)
+  pub group-passes : (d n at : ℕ) (body : List ℕ) → 0 < d → full body ≡ true → blockAt ln d n at groupTag body ≡ got nest
+  unfolding blockAt begun
+  group-passes d n at body h e = bind-got _ (tagOf-got at nested) ∙ test-got _ _ _ _ (lt-ltb 0 d h) ∙ test-got _ _ _ _ e
 
-  pub walk-got : (F : Entries) (f d n at : ℕ) → Good F → depth F ≤ d → leaves F ≤ n → length (spell F) < 65_536 → length (spell F) < f → walk ln f d n at (spell F) ≡ got F
-  unfolding step blockAt begun spell spellBlock Good depth leaves
-  walk-got F zero d n at G D N l m = absurd (omega arith)
-  walk-got end (suc f) d n at G D N l m = walk-none f d n at
-  walk-got (leaf k v r) (suc f) d n at G D N l m =
+  pub entries-got : (F : Entries) (d n at : ℕ) → Good F → depth F ≤ d → leaves F ≤ n → length (spell F) < 65_536 → entries ln d n at (spell F) ≡ got F
+  unfolding step spell spellBlock Good depth leaves
+  entries-got end d n at G D N l = entries-none ln d n at
+  entries-got (leaf k v r) d n at G D N l =
       let body : List ℕ = spellValues (entry k .fields) (entry k .listed v) in
       let L = length-leaf k v r in
-      walk-block f d n at (entry k .tag) body (spell r) (omega arith)
-      ∙ bind-got _ (bind-got _ (tagOf-got at (load k)) ∙ bind-got _ (fixed-got ln at (entry k) (entry-lawful k) (ltb 0 n) v (lt-ltb 0 n (omega arith)) (G .0)))
-      ∙ bind-got _ (walk-got r f d (n - 1) (at + 3 + length body) (G .1) D (omega arith) (omega arith) (omega arith))
-  walk-got (group g r) (suc f) d n at G D N l m =
+      entries-block ln d n at (entry k .tag) body (spell r) (omega arith) ∙ bind-got _ (entry-passes d n at k v (omega arith) (G .0))
+      ∙ bind-got _ (entries-got r d (n - 1) (at + 3 + length body) (G .1) D (omega arith) (omega arith))
+  entries-got (group g r) d n at G D N l =
       let L = length-group g r in
-      walk-block f d n at groupTag (spell g) (spell r) (omega arith)
-      ∙ bind-got _ (bind-got _ (tagOf-got at nested) ∙ test-got _ _ _ _ (lt-ltb 0 d (omega arith)) ∙ test-got _ _ _ _ (full-spell g ∙ G .0))
-      ∙ bind-got _ (walk-got g f (d - 1) n (at + 3) (G .1) (omega arith) (omega arith) (omega arith) (omega arith))
-      ∙ bind-got _ (walk-got r f d (n - leaves g) (at + 3 + length (spell g)) (G .2) (omega arith) (omega arith) (omega arith) (omega arith))
+      entries-block ln d n at groupTag (spell g) (spell r) (omega arith) ∙ bind-got _ (group-passes d n at (spell g) (omega arith) (full-spell g ∙ G .0))
+      ∙ bind-got _ (entries-got g (d - 1) n (at + 3) (G .1) (omega arith) (omega arith) (omega arith))
+      ∙ bind-got _ (entries-got r d (n - leaves g) (at + 3 + length (spell g)) (G .2) (omega arith) (omega arith) (omega arith))
