@@ -1,4 +1,5 @@
 pub mod Areas
+pub mod Curves
 pub mod Filling
 pub mod Interpolation
 pub mod Limits
@@ -9,4 +10,3 @@ pub mod Steps
 pub mod Straight
 pub mod Weighing
 pub mod Soundness
-pub mod Fairness

@@ -31,7 +31,7 @@ leversOf kn kg = map (g kn kg) stations
 
 -- '50 times the straight-line value of g.'
 unfoldable pub straight : List ℤ → ℕ → ℤ
-straight gs t = getD gs (t / 50) (pos 0) *ℤ pos (50 - t % 50) +ℤ getD gs (t / 50 + 1) (pos 0) *ℤ pos (t % 50)
+straight gs t = pos (50 - t % 50) *ℤ getD gs (t / 50) (pos 0) +ℤ pos (t % 50) *ℤ getD gs (t / 50 + 1) (pos 0)
 
 -- An array of 601 entries that are those of f.
 pub record Holds (f : ℕ → ℤ) (zs : List ℤ) : Type 0 where

@@ -50,11 +50,11 @@ pub fn levers(kn: [u64; 13], kg: u64) -> [i64; 13]
 // 50 times the straight-line value between two stations, m tenths past the first.
 fn between(a: i64, b: i64, m: u64) -> i64
     requires { ⌜ (natAbs a ≤ «most-g») × (natAbs b ≤ «most-g») × (m ≤ 50) ⌝ }
-    ensures { λ r. ⌜ r ≡ a *ℤ pos (50 - m) +ℤ b *ℤ pos m ⌝ }
+    ensures { λ r. ⌜ r ≡ pos (50 - m) *ℤ a +ℤ pos m *ℤ b ⌝ }
 {
     let left = (50 - m) as i64;
     let past = m as i64;
-    a * left + b * past
+    left * a + past * b
 }
 
 // y at each tenth: at the last one the last station's, before it between two stations.

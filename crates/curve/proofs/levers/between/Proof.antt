@@ -16,9 +16,9 @@ use Rattle.curve.proofs.levers.between.Lts as lts
 record Facts (a b : ℤ) (m : ℕ) : Type 0 where
   l : 50 - m < 2 ^ 63
   p : m < 2 ^ 63
-  x : SFits w64 (a *ℤ pos (50 - m))
-  y : SFits w64 (b *ℤ pos m)
-  z : SFits w64 (a *ℤ pos (50 - m) +ℤ b *ℤ pos m)
+  x : SFits w64 (pos (50 - m) *ℤ a)
+  y : SFits w64 (pos m *ℤ b)
+  z : SFits w64 (pos (50 - m) *ℤ a +ℤ pos m *ℤ b)
 
 facts : (c : tie.Start) → Facts (c .args .a) (c .args .b) (c .args .m)
 facts c =
@@ -29,9 +29,9 @@ facts c =
     record {
       l = omega arith;
       p = omega arith;
-      x = record { sfits = omega (arith, mag-abs (a *ℤ pos (50 - m)), part-left a b m n (c .pre .2) (c .pre .0) (c .pre .1)) };
-      y = record { sfits = omega (arith, mag-abs (b *ℤ pos m), part-past a b m n (c .pre .2) (c .pre .0) (c .pre .1)) };
-      z = record { sfits = omega (arith, mag-abs (a *ℤ pos (50 - m) +ℤ b *ℤ pos m), straight-within a b m n (c .pre .2) (c .pre .0) (c .pre .1)) };
+      x = record { sfits = omega (arith, mag-abs (pos (50 - m) *ℤ a), part-left a b m n (c .pre .2) (c .pre .0) (c .pre .1)) };
+      y = record { sfits = omega (arith, mag-abs (pos m *ℤ b), part-past a b m n (c .pre .2) (c .pre .0) (c .pre .1)) };
+      z = record { sfits = omega (arith, mag-abs (pos (50 - m) *ℤ a +ℤ pos m *ℤ b), straight-within a b m n (c .pre .2) (c .pre .0) (c .pre .1)) };
     }
 
 -- src/levers.rt:43:17
