@@ -1,5 +1,5 @@
 -- Between the two rows around W: their values are of two bytes, and the table's straight line is theirs.
-use mathlib.Core.Path.{_≡_, refl, ap, sym, _∙_, subst}
+use mathlib.Core.Path.{_≡_, ap, sym, _∙_, subst}
 use mathlib.Core.Bool.{Bool, true, _&&_}
 use mathlib.Core.List.{List, [], _∷_, _++_, map, map-append}
 use Prim.Native.Nat.{ℕ, zero, suc, _+_, _-_, _≤_, _<_}
@@ -9,8 +9,8 @@ use lib.ListN.{length, getD, take, drop}
 use lib.Seq.{drop-cons, split-at}
 use mir.Facts.{and-yes}
 use Rattle.rules.specs.Rounding.{down, Point, point, span, gap, line}
-use Rattle.rules.specs.Blocks as rules
 use Rattle.rules.specs.Layout.{Rising}
+use Rattle.rules.specs.Blocks as rules
 use Rattle.rules.specs.Curve as curve
 use Rattle.rules.proofs.Rounding.{rounded-unique}
 use Rattle.rules.proofs.StraightLine.{line-rounded}

@@ -1,12 +1,12 @@
--- 'A value outside its limits', read field by field: what a block within its limits holds, and how to be within them.
+-- 'A value outside its limits', read field by field: what a block within its limits holds.
 use mathlib.Core.Path.{_≡_, refl, ap}
 use mathlib.Core.Bool.{true, _&&_}
 use mathlib.Core.List.{List, [], _∷_}
-use Prim.Native.Nat.{ℕ, zero, suc, _≤_, _<_}
+use Prim.Native.Nat.{ℕ, zero, suc, _≤_}
 use native.Mathlib.Omega.{arith}
 use lib.Dec.{leb}
 use lib.ListN.{length, getD}
-use borrow.Author.Tests.{leb-true, le-leb}
+use borrow.Author.Tests.{leb-true}
 use Rattle.rules.specs.Blocks.{Field, field, within, Layout, ok}
 use Rattle.rules.proofs.Fields.{both-true}
 
@@ -35,14 +35,6 @@ limited (f ∷ fs) (x ∷ v) e =
     here : f .low ≤ x → x ≤ f .high → ((i : ℕ) → Inside (fieldAt fs i) (getD v i 0)) → (i : ℕ) → Inside (fieldAt (f ∷ fs) i) (getD (x ∷ v) i 0)
     here h k r zero = (h, k)
     here h k r (suc i) = r i
-
-pub within-all : (fs : List Field) (v : List ℕ) → length v ≡ length fs → ((i : ℕ) → i < length fs → Inside (fieldAt fs i) (getD v i 0)) → within fs v ≡ true
-unfolding within
-within-all [] [] long each = refl
-within-all [] (x ∷ v) long each = absurd (omega arith)
-within-all (f ∷ fs) [] long each = absurd (omega arith)
-within-all (f ∷ fs) (x ∷ v) long each =
-    rw (le-leb (f .low) x (each 0 (omega arith) .0), le-leb x (f .high) (each 0 (omega arith) .1), within-all fs v (omega arith) (λ i l. each (suc i) (omega arith)))
 
 pub ok-limited : {A : Type 0} (L : Layout A) (a : A) → ok L a ≡ true → Limited (L .fields) (L .listed a)
 unfolding ok

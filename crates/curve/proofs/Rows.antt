@@ -1,16 +1,16 @@
 -- The rows of a table, by number: the plain data and the rules speak of the same rows.
 use mathlib.Core.Path.{_≡_, refl, ap, sym, _∙_}
 use mathlib.Core.Bool.{true, _&&_}
-use mathlib.Core.List.{List, [], _∷_, map}
-use Prim.Native.Nat.{ℕ, zero, suc, _+_, _-_, _≤_, _<_}
+use mathlib.Core.List.{List, [], _∷_}
+use Prim.Native.Nat.{ℕ, suc, _-_, _≤_, _<_}
 use native.Mathlib.Omega.{arith}
 use lib.Dec.{leb}
-use borrow.Author.Tests.{leb-true}
 use lib.ListN.{length, getD, take, length-map, List·getD-map}
 use lib.Seq.{length-take-le, getD-take}
-use Rattle.rules.specs.Blocks as rules
+use borrow.Author.Tests.{leb-true}
 use Rattle.rules.specs.Layout.{Rising}
 use Rattle.rules.specs.Loading.{firstMass, lastMass, inTable}
+use Rattle.rules.specs.Blocks as rules
 use Rattle.rules.proofs.Fields.{both-true}
 use Rattle.book.specs.Book.{rowOf, rowsOf}
 use Rattle.book.specs.declared.Table.{Table}

@@ -1,5 +1,5 @@
 -- How far from zero the levers, y and the areas can be, so that the machine's signed numbers hold them.
-use mathlib.Core.Path.{_≡_, refl, ap, sym, _∙_}
+use mathlib.Core.Path.{_≡_}
 use mathlib.Core.Bool.{Bool, true, _&&_}
 use mathlib.Core.List.{List, [], _∷_}
 use Prim.Native.Nat.{ℕ, zero, suc, _+_, _-_, _*_, _/_, _%_, _^_, _≤_, _<_}
@@ -7,9 +7,9 @@ use native.Mathlib.Omega.{arith}
 use native.Mathlib.Nat.{mul-le-mul, mul-le-mul-left}
 use lib.Dec.{T, ltb, ltb→lt}
 use lib.ListN.{length, getD}
-use mir.Facts.{and-yes}
 use lib.IntN.{ℤ, pos, negsuc, subℕ, natAbs, _+ℤ_, _*ℤ_}
 use lib.Signed.{mag}
+use mir.Facts.{and-yes}
 use Rattle.rules.specs.Curve.{sines, lever}
 use Rattle.rules.proofs.Signed.{up, dn, up-add, dn-add, up-mull, dn-mull, up-sub, dn-sub, mag-le}
 use Rattle.curve.specs.Levers.{Sized, Within, most-g, most-y, g, leversOf, straight, Holds, held, upTo}

@@ -1,17 +1,17 @@
 -- A reading within its limits gives a whole table and sums that the machine can hold.
-use mathlib.Core.Path.{_≡_, refl, ap, sym, _∙_, subst}
+use mathlib.Core.Path.{_≡_, refl, ap, _∙_}
 use mathlib.Core.Bool.{Bool, true, false, cond, _&&_}
-use mathlib.Core.List.{List, [], _∷_, _++_, map}
-use Prim.Native.Nat.{ℕ, zero, suc, _+_, _-_, _*_, _^_, _≤_, _<_}
+use mathlib.Core.List.{List, [], _∷_, map}
+use Prim.Native.Nat.{ℕ, _-_, _*_, _≤_}
 use native.Mathlib.Omega.{arith}
 use native.Mathlib.Nat.{mul-le-mul, mul-le-mul-left, mul-le-mul-right}
 use lib.Dec.{ltb}
-use lib.ListN.{length, replicate, length-append, length-map, length-replicate}
+use lib.ListN.{length, length-append, length-map, length-replicate}
 use lib.Seq.{take-at}
-use Rattle.rules.specs.Blocks as rules
-use Rattle.rules.specs.Layout.{Entries, end, leaf, group, Good, leaves, Reading, ConditionLimits, Limits}
+use Rattle.rules.specs.Layout.{Entries, end, leaf, group, Good, leaves, Reading, Limits}
 use Rattle.rules.specs.Loading.{Entry, flat, total, mass, moment, freeSurface, nominallyFull}
-use Rattle.rules.proofs.Sums.{total-append, leaves-flat}
+use Rattle.rules.specs.Blocks as rules
+use Rattle.rules.proofs.Sums.{total-append}
 use Rattle.book.specs.Book.{rowOf, rowsOf, plainRow, tableOf, sumsOf}
 use Rattle.curve.specs.Weighing.{Whole, Sound}
 use Rattle.curve.proofs.Limits.{ok-limited}

@@ -5,8 +5,8 @@ use mathlib.Core.List.{List, [], map}
 use Prim.Native.Nat.{ℕ, _-_, _≤_, _<_}
 use lib.ListN.{getD}
 use Rattle.rules.specs.Rounding.{down, point, line}
-use Rattle.rules.specs.Blocks as rules
 use Rattle.rules.specs.Curve.{stations}
+use Rattle.rules.specs.Blocks as rules
 use Rattle.book.specs.Book.{rowOf}
 use Rattle.book.specs.declared.Row.{Row}
 use Rattle.book.specs.declared.Table.{Table}

@@ -4,7 +4,7 @@ use mathlib.Core.List.{List, map}
 use Prim.Native.Nat.{ℕ, suc, _+_, _-_, _*_, _/_, _%_, _^_, _≤_, _<_}
 use lib.ListN.{length, getD}
 use lib.IntN.{ℤ, pos, negsuc, negℤ, subℕ, natAbs, _+ℤ_, _*ℤ_}
-use Rattle.rules.specs.Curve.{stations, sines, lever, area}
+use Rattle.rules.specs.Curve.{stations, sines, area}
 
 -- Sizes that the machine's arithmetic rests on: KN and KG within two bytes.
 pub record Sized (kn : List ℕ) (kg : ℕ) : Type 0 where

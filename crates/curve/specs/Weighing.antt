@@ -1,6 +1,6 @@
 -- Loading: W and the corrected KG, or 7 or 8; and what makes a table and sums fit for it.
 use mathlib.Core.Path.{_≡_}
-use mathlib.Core.Bool.{Bool, true, false, cond}
+use mathlib.Core.Bool.{cond}
 use mathlib.Core.List.{List}
 use Prim.Native.Nat.{ℕ, _+_, _^_, _≤_}
 use lib.Dec.{leb}

@@ -1,13 +1,12 @@
-use borrow.Author.Needs.{needs}
+-- `curve::table::around` meets its contract: the row before is no heavier than W. Assumes nothing.
+use mathlib.Core.Path.{_≡_}
+use Prim.Native.Nat.{_+_, _-_, _≤_}
 use native.Mathlib.Omega.{arith}
-use mathlib.Core.Path.{_≡_, subst, sym}
-use Prim.Native.Nat.{ℕ, _+_, _-_, _≤_}
+use borrow.Author.Needs.{needs}
 use Rattle.curve.specs.Interpolation.{rowAt}
 use Rattle.curve.proofs.Rows.{within-rows}
 use Rattle.curve.proofs.table.around.Statement.{statement}
 use Rattle.curve.proofs.table.around.Tie as tie
-use Rattle.curve.proofs.table.around.Reads as reads
-use Rattle.curve.proofs.table.around.Lts as lts
 
 abbrev Inv-loop : tie.InvT-loop
 Inv-loop w table end i₀ i = (1 ≤ i) × (i ≤ end) × (rowAt table (i - 1) .mass ≤ w)
@@ -15,39 +14,30 @@ Inv-loop w table end i₀ i = (1 ≤ i) × (i ≤ end) × (rowAt table (i - 1) .
 abbrev μ-loop : tie.MeasureT-loop
 μ-loop w table end i₀ i = end - i
 
--- src/table.rt:18:15
 sub-end : tie.Need-sub-end Inv-loop μ-loop
 sub-end c = search needs
 
--- src/table.rt:20:5
 loop-holds : tie.Need-loop-holds Inv-loop μ-loop
 loop-holds c = (omega arith, omega arith, within-rows (c .args .t1) (c .args .w) (c .pre .0) (c .pre .1) .0)
 
--- src/table.rt:21:19
 mul-row : tie.Need-mul-row Inv-loop μ-loop
 mul-row c = search needs
 
--- src/table.rt:21:19
 element-copy-out-row : tie.Need-element-copy-out-row Inv-loop μ-loop
 element-copy-out-row c = search needs
 
--- src/table.rt:23:13
 returns : tie.Need-returns Inv-loop μ-loop
 returns c = let l = c .before .before .before .before in record { first = l .loop .inv .0; last = omega arith; from = l .loop .inv .2; to = omega (arith, c .if1 .taken) }
 
--- src/table.rt:25:13
 add-i : tie.Need-add-i Inv-loop μ-loop
 add-i c = search needs
 
--- src/table.rt:20:5
 loop-less : tie.Need-loop-less Inv-loop μ-loop
 loop-less c = search needs
 
--- src/table.rt:20:5
 loop-again : tie.Need-loop-again Inv-loop μ-loop
 loop-again c = let i = c .before .before .before .before .loop .i in let e : i + 1 - 1 ≡ i = omega arith in (omega arith, omega arith, rw e (c .if1 .left))
 
--- src/table.rt:14:1
 returns-2 : tie.Need-returns-2 Inv-loop μ-loop
 returns-2 c =
     let s = c .before .before in
