@@ -16,7 +16,7 @@ use Rattle.rules.specs.Blocks.{row, weather}
 use Rattle.rules.proofs.Signed.{eq!, sub≡}
 use Rattle.rules.proofs.Searches.{peak-is}
 use Rattle.curve.specs.Levers.{Sized, Holds, held, upTo}
-use Rattle.curve.proofs.Limits.{ok-limited}
+use Rattle.curve.proofs.Limits.{ok-at}
 use Rattle.curve.proofs.Interpolation.{kn-small}
 use Rattle.curve.proofs.Areas.{Odd, upTo-same, leeward, windward}
 
@@ -94,7 +94,7 @@ module _ (c : Loaded) (fair : Fair c) where
   fair-sized = record { forms = kn-small (rowAt c) (fair .form); centre = omega (arith, fair .centre) }
 
   pub fair-upright : getD (c .kn) 0 0 ≡ 0
-  fair-upright = omega (arith, ok-limited row (rowAt c) (fair .form) .each 3 .1)
+  fair-upright = omega (arith, ok-at row (rowAt c) (fair .form) 3 .1)
 
   pub fair-end : E c ≤ 600
-  fair-end = ok-limited weather (c .weather) (fair .sky) .each 3 .1
+  fair-end = ok-at weather (c .weather) (fair .sky) 3 .1

@@ -23,7 +23,7 @@ use Rattle.book.specs.declared.Weather.{Weather}
 use Rattle.book.specs.declared.Table.{Table}
 use Rattle.curve.specs.Weighing.{Whole}
 use Rattle.curve.specs.Interpolation.{noRow, rowAt, Around, Neighbours, between, knBetween}
-use Rattle.curve.proofs.Limits.{fieldAt, Limited, ok-limited}
+use Rattle.curve.proofs.Limits.{fieldAt, ok-at}
 use Rattle.curve.proofs.Rows.{rows-long, row-at}
 
 -- ---- a row within its limits
@@ -37,20 +37,17 @@ field-lower n (f ∷ fs) t zero = leb→le (f .high) n (and-yes (leb (f .high) n
 field-lower n (f ∷ fs) t (suc i) = field-lower n fs (and-yes (leb (f .high) n) (lower n fs) t .1) i
 
 module _ (r : rules.Row) (fine : rules.ok rules.row r ≡ true) where
-  limits : Limited (rules.row .fields) (rules.row .listed r)
-  limits = ok-limited rules.row r fine
-
   pub mass-most : r .mass ≤ 600_000_000
-  mass-most = limits .each 0 .1
+  mass-most = ok-at rules.row r fine 0 .1
 
   pub draught-small : r .draught < 65_536
-  draught-small = omega (arith, limits .each 1 .1)
+  draught-small = omega (arith, ok-at rules.row r fine 1 .1)
 
   pub km-small : r .km < 65_536
-  km-small = omega (arith, limits .each 2 .1)
+  km-small = omega (arith, ok-at rules.row r fine 2 .1)
 
   pub kn-small : (i : ℕ) → getD (r .kn) i 0 < 65_536
-  kn-small i = omega (arith, limits .each (suc (suc (suc i))) .1, field-lower 30_000 (drop 3 (rules.row .fields)) tt i)
+  kn-small i = omega (arith, ok-at rules.row r fine (suc (suc (suc i))) .1, field-lower 30_000 (drop 3 (rules.row .fields)) tt i)
 
 -- ---- two rows with W between them
 pub lies-between : (a b : Row) (w : ℕ) → Neighbours a b w → (v u : ℕ) → v < 65_536 → u < 65_536 → Between (a .mass) v (b .mass) u w

@@ -14,7 +14,7 @@ use Rattle.rules.specs.Blocks as rules
 use Rattle.rules.proofs.Sums.{total-append}
 use Rattle.book.specs.Book.{rowOf, rowsOf, plainRow, tableOf, sumsOf}
 use Rattle.curve.specs.Weighing.{Whole, Sound}
-use Rattle.curve.proofs.Limits.{ok-limited}
+use Rattle.curve.proofs.Limits.{ok-at}
 
 -- ---- the table
 module _ (rows : List rules.Row) where
@@ -39,16 +39,16 @@ abbrev Each : (Entry → ℕ) → ℕ → Type 0
 Each f n = (k : rules.Load) (v : rules.Values k) → rules.ok (rules.entry k) v ≡ true → f (record { kind = k; values = v }) ≤ n
 
 masses : Each mass 600_000_000
-masses rules.item v e = ok-limited (rules.entry rules.item) v e .each 0 .1
-masses rules.tank v e = ok-limited (rules.entry rules.tank) v e .each 0 .1
+masses rules.item v e = ok-at (rules.entry rules.item) v e 0 .1
+masses rules.tank v e = ok-at (rules.entry rules.tank) v e 0 .1
 
 moments : Each moment (600_000_000 * 60_000)
-moments rules.item v e = let l = ok-limited (rules.entry rules.item) v e in mul-le-mul (l .each 0 .1) (l .each 1 .1)
-moments rules.tank v e = let l = ok-limited (rules.entry rules.tank) v e in mul-le-mul (l .each 0 .1) (l .each 1 .1)
+moments rules.item v e = let l = ok-at (rules.entry rules.item) v e in mul-le-mul (l 0 .1) (l 1 .1)
+moments rules.tank v e = let l = ok-at (rules.entry rules.tank) v e in mul-le-mul (l 0 .1) (l 1 .1)
 
 surfaces : Each freeSurface (1000 * 2_000 * 100_000)
 surfaces rules.item v e = omega arith
-surfaces rules.tank v e = let l = ok-limited (rules.entry rules.tank) v e in or-none (ltb 0 (v .fill) && ltb (v .fill) nominallyFull) (mul-le-mul (mul-le-mul-left 1000 (l .each 3 .1)) (l .each 4 .1))
+surfaces rules.tank v e = let l = ok-at (rules.entry rules.tank) v e in or-none (ltb 0 (v .fill) && ltb (v .fill) nominallyFull) (mul-le-mul (mul-le-mul-left 1000 (l 3 .1)) (l 4 .1))
   where
     or-none : {a n : ℕ} (b : Bool) → a ≤ n → cond b a 0 ≤ n
     or-none true h = h
@@ -72,6 +72,8 @@ sound r l =
     let m = l .loaded .many in
     record {
       whole = whole r l;
-      light = omega (arith, most mass 600_000_000 masses F g m);
-      low = omega (arith, most moment (600_000_000 * 60_000) moments F g m, most freeSurface (1000 * 2_000 * 100_000) surfaces F g m);
+      light = record {
+        mass = omega (arith, most mass 600_000_000 masses F g m);
+        moments = omega (arith, most moment (600_000_000 * 60_000) moments F g m, most freeSurface (1000 * 2_000 * 100_000) surfaces F g m);
+      };
     }

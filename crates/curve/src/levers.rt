@@ -48,7 +48,7 @@ pub fn levers(kn: [u64; 13], kg: u64) -> [i64; 13]
 }
 
 // 50 times the straight-line value between two stations, m tenths past the first.
-fn between(a: i64, b: i64, m: u64) -> i64
+fn fifty(a: i64, b: i64, m: u64) -> i64
     requires { ⌜ (natAbs a ≤ «most-g») × (natAbs b ≤ «most-g») × (m ≤ 50) ⌝ }
     ensures { λ r. ⌜ r ≡ pos (50 - m) *ℤ a +ℤ pos m *ℤ b ⌝ }
 {
@@ -62,11 +62,11 @@ pub fn tenths(g: [i64; 13]) -> [i64; 601]
     requires { ⌜ Within «most-g» g ⌝ }
     ensures { λ r. ⌜ Holds (straight g) r ⌝ }
 {
-    let end = between(g[11], g[12], 50);
+    let end = fifty(g[11], g[12], 50);
     let mut y = [end; 601];
     let mut t = 0;
     while t < 600 {
-        y[t] = between(g[t / 50], g[t / 50 + 1], (t % 50) as u64);
+        y[t] = fifty(g[t / 50], g[t / 50 + 1], (t % 50) as u64);
         t = t + 1;
     }
     y

@@ -1,9 +1,10 @@
 // What the table gives at W: d, KM and each KN on the straight line between the two rows around W, rounded down.
 ghost use mathlib.Core.Path.{_≡_};
 ghost use mathlib.Core.Bool.{true};
-ghost use Prim.Native.Nat.{_<_};
+ghost use Rattle.rules.specs.Rounding.{down, point, line};
 ghost use Rattle.rules.specs.Loading.{inTable};
 ghost use Rattle.rules.specs.Curve.{loadedAt};
+ghost use Rattle.rounding.specs.Points.{Between};
 ghost use Rattle.book.specs.Book.{shipOf, rowsOf, weatherOf, loadedOf};
 ghost use Rattle.curve.specs.Weighing.{Whole};
 ghost use Rattle.curve.specs.Interpolation.{Around, Neighbours, knBetween};
@@ -36,8 +37,16 @@ fn wide(x: u16) -> u64
     x as u64
 }
 
+// On the straight line between two rows at W, from a value of each, rounded down.
+fn between(a: Row, low: u64, b: Row, high: u64, w: u64) -> u64
+    requires { ⌜ Between (a .mass) low (b .mass) high w ⌝ }
+    ensures { λ r. ⌜ r ≡ line down (point (a .mass) low) (point (b .mass) high) w ⌝ }
+{
+    rounding::line_down(a.mass, low, b.mass, high, w)
+}
+
 // KN at each station.
-fn forms(a: Row, b: Row, w: u64) -> [u64; 13]
+fn kn_between(a: Row, b: Row, w: u64) -> [u64; 13]
     requires { ⌜ Neighbours a b w ⌝ }
     ensures { λ r. ⌜ r ≡ knBetween a b w ⌝ }
 {
@@ -46,7 +55,7 @@ fn forms(a: Row, b: Row, w: u64) -> [u64; 13]
     let mut kn = [0u64; 13];
     let mut i = 0;
     while i < 13 {
-        kn[i] = rounding::line_down(a.mass, wide(lower[i]), b.mass, wide(upper[i]), w);
+        kn[i] = between(a, wide(lower[i]), b, wide(upper[i]), w);
         i = i + 1;
     }
     kn
@@ -61,9 +70,9 @@ pub fn loaded(ship: Ship, weather: Weather, table: Table, w: u64, kg: u64) -> Lo
     let lower = upper - 1;
     let a = table.rows[lower];
     let b = table.rows[upper];
-    let draught = rounding::line_down(a.mass, a.draught, b.mass, b.draught, w);
-    let km = rounding::line_down(a.mass, a.km, b.mass, b.km, w);
-    let kn = forms(a, b, w);
+    let draught = between(a, a.draught, b, b.draught, w);
+    let km = between(a, a.km, b, b.km, w);
+    let kn = kn_between(a, b, w);
     Loaded {
         ship,
         weather,

@@ -27,13 +27,10 @@ returns c =
     let b = c .before .before in
     c .refused .ensures ∙ sym (out-of-table _ (b .before .args .sums) (sym (b .in-table .ensures) ∙ not-true (b .in-table .result) (c .before .if1 .taken)))
 
-add-ceil : tie.Need-add-ceil
-add-ceil c = search needs
-
-ceil-requires : tie.Need-ceil-requires
-ceil-requires c κs =
-    let s = c .before .before .before in
-    (afloat (s .args .table) (s .args .sums .mass) (s .pre .whole) (within (c .before)), omega arith)
+corrected-kg-requires : tie.Need-corrected-kg-requires
+corrected-kg-requires c κs =
+    let s = c .before .before in
+    (afloat (s .args .table) (s .args .sums .mass) (s .pre .whole) (within c), s .pre .light)
 
 refused-requires-2 : tie.Need-refused-requires-2
 refused-requires-2 c κs = search needs
@@ -41,13 +38,13 @@ refused-requires-2 c κs = search needs
 returns-2 : tie.Need-returns-2
 returns-2 c =
     let k = c .before .before in
-    c .refused2 .ensures ∙ sym (too-high _ (k .before .before .before .before .args .sums) (within (k .before .before)) (omega (arith, k .ceil .ensures)))
+    c .refused2 .ensures ∙ sym (too-high _ (k .before .before .before .args .sums) (within (k .before)) (omega (arith, k .corrected-kg .ensures)))
 
 returns-3 : tie.Need-returns-3
 returns-3 c =
     let k = c .before in
-    let s = k .before .before .before .before .args .sums in
-    ap (Fine (s .mass)) (k .ceil .ensures) ∙ sym (fine _ s (within (k .before .before)) (omega (arith, k .ceil .ensures)))
+    let s = k .before .before .before .args .sums in
+    ap (Fine (s .mass)) (k .corrected-kg .ensures) ∙ sym (fine _ s (within (k .before)) (omega (arith, k .corrected-kg .ensures)))
 
 pub weigh-spec : {M : Type 1} → statement M
 weigh-spec =
@@ -56,8 +53,7 @@ weigh-spec =
     in-table-requires
     refused-requires
     returns
-    add-ceil
-    ceil-requires
+    corrected-kg-requires
     refused-requires-2
     returns-2
     returns-3)

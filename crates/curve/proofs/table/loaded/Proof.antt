@@ -28,20 +28,20 @@ mul-b c = search needs
 element-copy-out-b : tie.Need-element-copy-out-b
 element-copy-out-b c = search needs
 
-line-down-requires : tie.Need-line-down-requires
-line-down-requires c κs = let n = rows (c .before .before) in lies-between _ _ _ n _ _ (draught-small _ (n .lower)) (draught-small _ (n .upper))
+between-requires : tie.Need-between-requires
+between-requires c κs = let n = rows (c .before .before) in lies-between _ _ _ n _ _ (draught-small _ (n .lower)) (draught-small _ (n .upper))
 
-line-down-requires-2 : tie.Need-line-down-requires-2
-line-down-requires-2 c κs = let n = rows (c .before .before .before) in lies-between _ _ _ n _ _ (km-small _ (n .lower)) (km-small _ (n .upper))
+between-requires-2 : tie.Need-between-requires-2
+between-requires-2 c κs = let n = rows (c .before .before .before) in lies-between _ _ _ n _ _ (km-small _ (n .lower)) (km-small _ (n .upper))
 
-forms-requires : tie.Need-forms-requires
-forms-requires c κs = rows (c .before .before .before .before)
+kn-between-requires : tie.Need-kn-between-requires
+kn-between-requires c κs = rows (c .before .before .before .before)
 
 returns : tie.Need-returns
 returns c =
     let r = c .before .before .before .before .before in
     let s = r .before in
-    loaded-is (s .args .t3) (s .pre .0) (s .args .w) (r .around .result) (r .around .ensures) (s .args .ship) (s .args .weather) (s .args .kg) _ _ _ (c .before .before .line-down .ensures) (c .before .line-down2 .ensures) (c .forms .ensures)
+    loaded-is (s .args .t3) (s .pre .0) (s .args .w) (r .around .result) (r .around .ensures) (s .args .ship) (s .args .weather) (s .args .kg) _ _ _ (c .before .before .between .ensures) (c .before .between2 .ensures) (c .kn-between .ensures)
 
 pub loaded-spec : {M : Type 1} → statement M
 loaded-spec =
@@ -53,7 +53,7 @@ loaded-spec =
     element-copy-out-a
     mul-b
     element-copy-out-b
-    line-down-requires
-    line-down-requires-2
-    forms-requires
+    between-requires
+    between-requires-2
+    kn-between-requires
     returns)

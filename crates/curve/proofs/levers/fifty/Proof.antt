@@ -1,4 +1,4 @@
--- `curve::levers::between` meets its contract: two levers, weighed by the tenths, stay far below 2^63. Assumes nothing.
+-- `curve::levers::fifty` meets its contract: two levers, weighed by the tenths, stay far below 2^63. Assumes nothing.
 use Prim.Native.Nat.{ℕ, _-_, _*_, _<_, _^_}
 use native.Mathlib.Omega.{arith}
 use lib.IntN.{ℤ, pos, _+ℤ_, _*ℤ_}
@@ -7,8 +7,8 @@ use mir.ValLaws.{toZ-ofZ, toZ-pos}
 use mir.Val.{SFits}
 use mir.Syntax.{w64}
 use Rattle.curve.proofs.Sizes.{part-left, part-past, straight-within, mag-abs}
-use Rattle.curve.proofs.levers.between.Statement.{statement}
-use Rattle.curve.proofs.levers.between.Tie as tie
+use Rattle.curve.proofs.levers.fifty.Statement.{statement}
+use Rattle.curve.proofs.levers.fifty.Tie as tie
 
 -- What fits, once for all the needs.
 record Facts (a b : ℤ) (m : ℕ) : Type 0 where
@@ -57,6 +57,6 @@ returns c =
     let f = facts c in
     simp (toZ-ofZ w64 _ (c .fits .a), toZ-pos w64 _ (f .l), toZ-ofZ w64 _ (c .fits .b), toZ-pos w64 _ (f .p), toZ-ofZ w64 _ (f .x), toZ-ofZ w64 _ (f .y), toZ-ofZ w64 _ (f .z))
 
-pub between-spec : {M : Type 1} → statement M
-between-spec =
+pub fifty-spec : {M : Type 1} → statement M
+fifty-spec =
     tie.close (tie.spec sub-left cast-left cast-past mul-result mul-result-2 add-result returns)

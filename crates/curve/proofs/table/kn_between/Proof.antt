@@ -1,4 +1,4 @@
--- `curve::table::forms` meets its contract: the stations passed are filled. Assumes nothing.
+-- `curve::table::kn_between` meets its contract: the stations passed are filled. Assumes nothing.
 use mathlib.Core.Path.{_≡_, refl, _∙_}
 use Prim.Native.Nat.{_-_, _≤_}
 use native.Mathlib.Omega.{arith}
@@ -8,8 +8,8 @@ use Rattle.book.specs.Book.{rowOf}
 use Rattle.curve.specs.Interpolation.{between}
 use Rattle.curve.proofs.Interpolation.{kn-small, lies-between}
 use Rattle.curve.proofs.Filling.{Filled, filled-none, filled-more, all-stations}
-use Rattle.curve.proofs.table.forms.Statement.{statement}
-use Rattle.curve.proofs.table.forms.Tie as tie
+use Rattle.curve.proofs.table.kn_between.Statement.{statement}
+use Rattle.curve.proofs.table.kn_between.Tie as tie
 
 abbrev Inv-loop : tie.InvT-loop
 Inv-loop a b w lower upper kn₀ i₀ kn i = (i ≤ 13) × (length kn ≡ 13) × Filled 0 (λ k. between a b (λ r. getD (r .kn) k 0) w) i kn
@@ -38,8 +38,8 @@ array-read-wide-2 c = search needs
 wide-requires-2 : tie.Need-wide-requires-2 Inv-loop μ-loop
 wide-requires-2 c κs = search needs
 
-line-down-requires : tie.Need-line-down-requires Inv-loop μ-loop
-line-down-requires c κs =
+between-requires : tie.Need-between-requires Inv-loop μ-loop
+between-requires c κs =
     let i = c .before .before .before .loop .i in
     let s = c .before .before .before .before .before .before in
     lies-between (s .args .a) (s .args .b) (s .args .w) (s .pre) _ _
@@ -61,7 +61,7 @@ loop-less c = search needs
 loop-again : tie.Need-loop-again Inv-loop μ-loop
 loop-again c =
     let l = c .before .before .before .before .loop in
-    (omega arith, simp length-set (l .inv .1), filled-more _ _ _ _ _ (search needs) (l .inv .2) (c .line-down .ensures ∙ rw (c .before .before .wide .ensures, c .before .wide2 .ensures)))
+    (omega arith, simp length-set (l .inv .1), filled-more _ _ _ _ _ (search needs) (l .inv .2) (c .between .ensures ∙ rw (c .before .before .wide .ensures, c .before .wide2 .ensures)))
 
 returns : tie.Need-returns Inv-loop μ-loop
 returns c =
@@ -69,8 +69,8 @@ returns c =
     let e : l .i ≡ 13 = omega arith in
     all-stations 0 _ _ (l .inv .1) (rw e at (l .inv .2))
 
-pub forms-spec : {M : Type 1} → statement M
-forms-spec =
+pub kn-between-spec : {M : Type 1} → statement M
+kn-between-spec =
     tie.close
     (tie.spec
     Inv-loop
@@ -82,7 +82,7 @@ forms-spec =
     mul-wide-2
     array-read-wide-2
     wide-requires-2
-    line-down-requires
+    between-requires
     mul-kn
     array-write-kn
     add-i
