@@ -12,7 +12,7 @@ use lib.Signed.{mag}
 use mir.Facts.{and-yes}
 use Rattle.rules.specs.Curve.{sines, lever}
 use Rattle.rules.proofs.Signed.{up, dn, up-add, dn-add, up-mull, dn-mull, up-sub, dn-sub, mag-le}
-use Rattle.curve.specs.Levers.{Sized, Within, most-g, most-y, g, leversOf, straight, Holds, held, upTo}
+use Rattle.curve.specs.Levers.{Sized, Within, mostG, mostY, g, leversOf, straight, Holds, held, upTo}
 use Rattle.curve.proofs.Areas.{upTo-none, upTo-more}
 use Rattle.curve.proofs.Filling.{at-station}
 use Rattle.curve.proofs.Straight.{straight-lever}
@@ -75,26 +75,26 @@ within-by n (z ∷ zs) all zero = all 0 (omega arith)
 within-by n (z ∷ zs) all (suc i) = within-by n zs (λ k l. all (suc k) (omega arith)) i
 
 module _ (kn : List ℕ) (kg : ℕ) (sizes : Sized kn kg) where
-  g-within : (i : ℕ) → natAbs (g kn kg i) ≤ most-g
+  g-within : (i : ℕ) → natAbs (g kn kg i) ≤ mostG
   unfolding g
   g-within i =
       omega (arith, abs-difference (100000 * getD kn i 0) (kg * getD sines i 0), over-small (sizes .forms i), under-small i (sizes .centre))
 
-  pub levers-within : Within most-g (leversOf kn kg)
-  levers-within = within-by most-g (leversOf kn kg) (λ i l. rw (at-station (pos 0) (g kn kg) i l) (g-within i))
+  pub levers-within : Within mostG (leversOf kn kg)
+  levers-within = within-by mostG (leversOf kn kg) (λ i l. rw (at-station (pos 0) (g kn kg) i l) (g-within i))
 
   -- y is the straight line between two of them.
-  y-within : (t : ℕ) → t ≤ 600 → natAbs (lever kn kg t) ≤ most-y
+  y-within : (t : ℕ) → t ≤ 600 → natAbs (lever kn kg t) ≤ mostY
   unfolding straight
   y-within t h =
       rw (← straight-lever kn kg t h)
-      (straight-within (getD (leversOf kn kg) (t / 50) (pos 0)) (getD (leversOf kn kg) (t / 50 + 1) (pos 0)) (t % 50) most-g (omega arith) (levers-within (t / 50)) (levers-within (t / 50 + 1)))
+      (straight-within (getD (leversOf kn kg) (t / 50) (pos 0)) (getD (leversOf kn kg) (t / 50 + 1) (pos 0)) (t % 50) mostG (omega arith) (levers-within (t / 50)) (levers-within (t / 50 + 1)))
 
-  pub curve-within : (ys : List ℤ) → Holds (lever kn kg) ys → Within most-y ys
-  curve-within ys is = within-by most-y ys (λ i l. let h : i ≤ 600 = omega (arith, is .long) in rw (is .at i h) (y-within i h))
+  pub curve-within : (ys : List ℤ) → Holds (lever kn kg) ys → Within mostY ys
+  curve-within ys is = within-by mostY ys (λ i l. let h : i ≤ 600 = omega (arith, is .long) in rw (is .at i h) (y-within i h))
 
 -- An area is that of n strips.
-pub areas-within : (ys : List ℤ) → Within most-y ys → (n : ℕ) → natAbs (upTo (held ys) n) ≤ n * (2 * most-y)
+pub areas-within : (ys : List ℤ) → Within mostY ys → (n : ℕ) → natAbs (upTo (held ys) n) ≤ n * (2 * mostY)
 unfolding held
 areas-within ys small zero = rw (upTo-none (held ys)) (omega arith)
 areas-within ys small (suc n) =

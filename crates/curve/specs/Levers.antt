@@ -16,11 +16,11 @@ abbrev pub Within : ℕ → List ℤ → Type 0
 Within n zs = (i : ℕ) → natAbs (getD zs i (pos 0)) ≤ n
 
 -- So far from zero no lever at a station is, and no y.
-abbrev pub most-g : ℕ
-most-g = 2 * 10 ^ 10
+abbrev pub mostG : ℕ
+mostG = 2 * 10 ^ 10
 
-abbrev pub most-y : ℕ
-most-y = 10 ^ 12
+abbrev pub mostY : ℕ
+mostY = 10 ^ 12
 
 -- 'g at a station = 100,000 x KN - KG x sine.'
 unfoldable pub g : List ℕ → ℕ → ℕ → ℤ

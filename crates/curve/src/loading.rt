@@ -8,6 +8,9 @@ use book::Refusal;
 use book::Sums;
 use book::Table;
 
+// Above this KG no ship is judged.
+const GREATEST_KG: u64 = 60_000;
+
 // The ship's weight and its centre, or why it is not judged.
 pub enum Weighed {
     Fine { w: u64, kg: u64 },
@@ -54,7 +57,7 @@ pub fn weigh(sums: Sums, table: Table) -> Weighed
         return refused(7);
     }
     let kg = corrected_kg(sums);
-    if 60_000 < kg {
+    if GREATEST_KG < kg {
         return refused(8);
     }
     Weighed::Fine { w, kg }
