@@ -1,10 +1,11 @@
 //! The bench sheet: P1 to P13, its unmarked lines, and the slips it has met.
 
+use crate::book::Document;
 use crate::criteria::{judge, Gust, Wind, FAIL, PASS};
 use crate::curve::Curve;
-use crate::line::read_up;
+use crate::line::{read_up, up};
 use crate::loading::laden;
-use crate::parse::{document, Document};
+use crate::parse::document;
 use crate::refusal::Refusal;
 use crate::report::report;
 use crate::roll;
@@ -108,7 +109,10 @@ fn too_many_characters() {
 fn flooding_at_300_leaves_no_area_for_criterion_2() {
     let judged = judge(p1_with(&[("01F400C8", "012C00C8")]).as_bytes()).expect("sound");
     assert_eq!((judged.verdicts[1], judged.figures[4]), (FAIL, 0));
-    assert_eq!(judged.figures[6], judge(p1().as_bytes()).expect("sound").figures[6]);
+    assert_eq!(
+        judged.figures[6],
+        judge(p1().as_bytes()).expect("sound").figures[6]
+    );
 }
 
 /// P1 with the wind arm that heels it to 160 tenths.
@@ -139,10 +143,10 @@ fn a_group_past_its_parent_but_not_past_its_line() {
 
 #[test]
 fn the_gust_lever_is_made_of_the_rounded_steady_lever() {
-    let document = read(&p1());
+    let document = read(&p1_with(&[("09C40FA0", "09C40F5F")]));
     let laden = laden(&document).expect("P1 lies on a row");
     let wind = Wind::on(&document, &laden, &Curve::of(&laden));
-    let unrounded = (3 * 5_040 * 2_500 * 4_000_i128 + 2 * 981 * 1_400_000 - 1) / (2 * 981 * 1_400_000);
-    assert_eq!(unrounded, 56 - 1 + i128::from(unrounded == 56));
-    assert_eq!(wind.gust_lever, 56);
+    let heeling = 5_040 * 2_500 * 3_935;
+    assert_eq!(up(3 * heeling, 2 * 981 * 1_400_000), 55);
+    assert_eq!((wind.steady_lever, wind.gust_lever), (37, 56));
 }

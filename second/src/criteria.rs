@@ -1,9 +1,10 @@
 //! The eight criteria, each with its verdict and its figures.
 
+use crate::book::Document;
 use crate::curve::{Curve, Y_PER_MILLIMETRE};
 use crate::line::up;
 use crate::loading::{laden, Laden};
-use crate::parse::{document, Document};
+use crate::parse::document;
 use crate::refusal::Refusal;
 use crate::roll;
 use crate::text::lines;

@@ -87,7 +87,13 @@ mod tests {
     use super::*;
 
     fn curve(kn: [i128; 13], kg: i128) -> Curve {
-        Curve::of(&Laden { displacement: 1, kg, draught: 1, km: 0, kn: kn.to_vec() })
+        Curve::of(&Laden {
+            displacement: 1,
+            kg,
+            draught: 1,
+            km: 0,
+            kn: kn.to_vec(),
+        })
     }
 
     #[test]

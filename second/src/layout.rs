@@ -89,7 +89,9 @@ pub fn values(tag: u8, body: &[u8]) -> Option<Vec<i128>> {
     let mut values = Vec::new();
     for field in fields(tag)? {
         let (mine, others) = rest.split_at_checked(field.width)?;
-        let value = mine.iter().fold(0, |value, byte| value * 256 + i128::from(*byte));
+        let value = mine
+            .iter()
+            .fold(0, |value, byte| value * 256 + i128::from(*byte));
         if value < field.least || value > field.most {
             return None;
         }

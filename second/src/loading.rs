@@ -1,8 +1,8 @@
 //! The loading condition: total mass, the corrected KG, and the ship's
 //! draught, KM and KN at that displacement.
 
+use crate::book::{Document, Entry, Liquid, Row};
 use crate::line::{between, down, up};
-use crate::parse::{Document, Entry, Liquid, Row};
 use crate::refusal::Refusal;
 
 const NOMINALLY_FULL: i128 = 980;
@@ -28,9 +28,10 @@ fn sums(entries: &[Entry]) -> (i128, i128) {
     entries.iter().fold((0, 0), |(mass, moment), entry| {
         let (more_mass, more_moment) = match entry {
             Entry::Item(weight) => (weight.mass, weight.mass * weight.centre),
-            Entry::Tank(weight, liquid) => {
-                (weight.mass, weight.mass * weight.centre + free_surface(liquid))
-            }
+            Entry::Tank(weight, liquid) => (
+                weight.mass,
+                weight.mass * weight.centre + free_surface(liquid),
+            ),
             Entry::Group(inner) => sums(inner),
         };
         (mass + more_mass, moment + more_moment)
@@ -88,7 +89,11 @@ mod tests {
     use super::*;
 
     fn tank(fill: i128) -> i128 {
-        free_surface(&Liquid { fill, density: 1_025, inertia: 7 })
+        free_surface(&Liquid {
+            fill,
+            density: 1_025,
+            inertia: 7,
+        })
     }
 
     #[test]

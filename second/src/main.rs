@@ -1,6 +1,8 @@
-//! The second program's command line: judge one text, make a corpus, and
-//! answer a corpus with reports or with the places of its faults.
+//! The second program's command line: judge one text, make a corpus or name
+//! its systematic cases, and answer a corpus with reports or with the places
+//! of its faults.
 
+mod book;
 mod corpus;
 mod criteria;
 mod curve;
@@ -24,8 +26,8 @@ use corpus::Corpus;
 use criteria::{judge, Judgement};
 use refusal::Refusal;
 
-const USAGE: &str = "usage: second judge | second corpus --seed S --count N [--small] \
-                     | second answers | second places";
+const USAGE: &str = "usage: second judge | answers | places | cases [--small] \
+                     | corpus --seed S --count N [--small]";
 
 type Answer = Result<Judgement, Refusal>;
 
@@ -36,6 +38,8 @@ fn main() -> ExitCode {
         ["judge"] => judge_one(),
         ["answers"] => answer_all(report::report),
         ["places"] => answer_all(report::place),
+        ["cases"] => write_names(&Corpus::new(0, false)),
+        ["cases", "--small"] => write_names(&Corpus::new(0, true)),
         ["corpus", options @ ..] => match corpus_asked(options) {
             Some((corpus, count)) => write_corpus(&corpus, count),
             None => return usage(),
@@ -61,7 +65,9 @@ fn judge_one() -> io::Result<()> {
     let mut text = Vec::new();
     let enough = text::MOST_CHARACTERS as u64 + 1;
     io::stdin().lock().take(enough).read_to_end(&mut text)?;
-    io::stdout().lock().write_all(report::report(&judge(&text)).as_bytes())
+    io::stdout()
+        .lock()
+        .write_all(report::report(&judge(&text)).as_bytes())
 }
 
 fn answer_all(written: fn(&Answer) -> String) -> io::Result<()> {
@@ -86,6 +92,14 @@ fn write_corpus(corpus: &Corpus, count: u64) -> io::Result<()> {
     let mut output = BufWriter::new(io::stdout().lock());
     for number in 0..count {
         stream::write_text(&mut output, &corpus.text(number))?;
+    }
+    output.flush()
+}
+
+fn write_names(corpus: &Corpus) -> io::Result<()> {
+    let mut output = BufWriter::new(io::stdout().lock());
+    for (number, name) in corpus.names().enumerate() {
+        writeln!(output, "{number} {name}")?;
     }
     output.flush()
 }

@@ -2,6 +2,7 @@
 //! A3 holds a tree of items, tanks and groups. Blocks are tested as they
 //! begin, in the order 2, 4, 3, 5, 6; the first fault met ends the reading.
 
+use crate::book::{Condition, Document, Entry, Liquid, Row, Ship, Weather, Weight};
 use crate::layout::{self, values, A1, A2, A3, C1, C2, C3, C4};
 use crate::refusal::Refusal;
 
@@ -10,64 +11,6 @@ pub const MOST_ROWS: usize = 40;
 pub const MOST_ENTRIES: usize = 200;
 pub const MOST_DEPTH: usize = 4;
 pub const MOST_CONDITION: usize = 4_096;
-
-#[derive(Clone, Debug, PartialEq)]
-pub struct Ship {
-    pub length: i128,
-    pub breadth: i128,
-    pub keel_area: i128,
-    pub sharp_bilge: bool,
-}
-
-#[derive(Clone, Debug, PartialEq)]
-pub struct Row {
-    pub displacement: i128,
-    pub draught: i128,
-    pub km: i128,
-    pub kn: Vec<i128>,
-}
-
-#[derive(Clone, Debug, PartialEq)]
-pub struct Weather {
-    pub wind_area: i128,
-    pub arm: i128,
-    pub block_coefficient: i128,
-    pub flooding: i128,
-    pub deck_edge: i128,
-}
-
-#[derive(Clone, Debug, PartialEq)]
-pub struct Weight {
-    pub mass: i128,
-    pub centre: i128,
-}
-
-#[derive(Clone, Debug, PartialEq)]
-pub struct Liquid {
-    pub fill: i128,
-    pub density: i128,
-    pub inertia: i128,
-}
-
-#[derive(Clone, Debug, PartialEq)]
-pub enum Entry {
-    Item(Weight),
-    Tank(Weight, Liquid),
-    Group(Vec<Entry>),
-}
-
-#[derive(Clone, Debug, PartialEq)]
-pub struct Condition {
-    pub weather: Weather,
-    pub entries: Vec<Entry>,
-}
-
-#[derive(Clone, Debug, PartialEq)]
-pub struct Document {
-    pub ship: Ship,
-    pub rows: Vec<Row>,
-    pub condition: Condition,
-}
 
 struct Line<'a> {
     number: usize,
@@ -103,7 +46,11 @@ impl<'a> Line<'a> {
         };
         let length = usize::from(*high) * 256 + usize::from(*low);
         match rest.get(..length) {
-            Some(body) => Ok(Block { tag: *tag, offset, body }),
+            Some(body) => Ok(Block {
+                tag: *tag,
+                offset,
+                body,
+            }),
             None => self.refuse(2, offset),
         }
     }
@@ -157,7 +104,11 @@ impl Reading {
             A1 => self.ship = Some(ship(&line.limits(&frame)?)),
             A2 => {
                 let row = row(&line.limits(&frame)?);
-                if self.rows.last().is_some_and(|last| last.displacement >= row.displacement) {
+                if self
+                    .rows
+                    .last()
+                    .is_some_and(|last| last.displacement >= row.displacement)
+                {
                     return line.refuse(6, 0);
                 }
                 self.rows.push(row);
@@ -172,10 +123,17 @@ impl Reading {
 pub fn document(lines: &[Vec<u8>]) -> Result<Document, Refusal> {
     let mut reading = Reading::default();
     for (index, bytes) in lines.iter().enumerate() {
-        reading.frame(&Line { number: index + 1, bytes })?;
+        reading.frame(&Line {
+            number: index + 1,
+            bytes,
+        })?;
     }
     match (reading.ship, reading.condition) {
-        (Some(ship), Some(condition)) => Ok(Document { ship, rows: reading.rows, condition }),
+        (Some(ship), Some(condition)) => Ok(Document {
+            ship,
+            rows: reading.rows,
+            condition,
+        }),
         _ => Err(Refusal::at(5, lines.len(), 0)),
     }
 }
@@ -240,8 +198,15 @@ struct Loading<'a> {
 
 impl<'a> Loading<'a> {
     fn new(line: &'a Line<'a>, end: usize) -> Loading<'a> {
-        let condition = Open { end, entries: Vec::new() };
-        Loading { line, open: vec![condition], counted: 0 }
+        let condition = Open {
+            end,
+            entries: Vec::new(),
+        };
+        Loading {
+            line,
+            open: vec![condition],
+            counted: 0,
+        }
     }
 
     fn read(mut self, from: usize) -> Result<Vec<Entry>, Refusal> {
@@ -274,7 +239,10 @@ impl<'a> Loading<'a> {
         if self.open.len() > MOST_DEPTH || block.body.is_empty() {
             return self.line.refuse(5, block.offset);
         }
-        self.open.push(Open { end: block.end(), entries: Vec::new() });
+        self.open.push(Open {
+            end: block.end(),
+            entries: Vec::new(),
+        });
         Ok(block.inside())
     }
 
@@ -284,11 +252,18 @@ impl<'a> Loading<'a> {
             return self.line.refuse(5, block.offset);
         }
         let values = self.line.limits(block)?;
-        let weight = Weight { mass: values[0], centre: values[1] };
+        let weight = Weight {
+            mass: values[0],
+            centre: values[1],
+        };
         let entry = match block.tag {
             C3 => Entry::Tank(
                 weight,
-                Liquid { fill: values[2], density: values[3], inertia: values[4] },
+                Liquid {
+                    fill: values[2],
+                    density: values[3],
+                    inertia: values[4],
+                },
             ),
             _ => Entry::Item(weight),
         };

@@ -10,7 +10,11 @@ pub struct Refusal {
 
 impl Refusal {
     pub fn at(number: u8, line: usize, offset: usize) -> Refusal {
-        Refusal { number, line, offset }
+        Refusal {
+            number,
+            line,
+            offset,
+        }
     }
 
     /// Refusals 7 and 8 belong to the loading as a whole: line and offset are 0.

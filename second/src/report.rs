@@ -16,13 +16,21 @@ pub fn report(answer: &Result<Judgement, Refusal>) -> String {
 }
 
 fn frame(refusal: &Refusal, verdicts: &[u8; 8], figures: &[i128; 11]) -> String {
-    let Refusal { number, line, offset } = refusal;
+    let Refusal {
+        number,
+        line,
+        offset,
+    } = refusal;
     let mut frame = format!("D10065{number:02X}{line:04X}{offset:04X}");
     for verdict in verdicts {
         frame.push_str(&format!("{verdict:02X}"));
     }
     for &figure in figures {
-        let written = if figure < 0 { figure + (1 << 64) } else { figure };
+        let written = if figure < 0 {
+            figure + (1 << 64)
+        } else {
+            figure
+        };
         frame.push_str(&format!("{written:016X}"));
     }
     frame.push('\n');
@@ -32,7 +40,11 @@ fn frame(refusal: &Refusal, verdicts: &[u8; 8], figures: &[i128; 11]) -> String 
 /// Number, line and offset of refusals 1 to 6; three zeros for all else.
 pub fn place(answer: &Result<Judgement, Refusal>) -> String {
     match answer {
-        Err(Refusal { number, line, offset }) if *number <= 6 => {
+        Err(Refusal {
+            number,
+            line,
+            offset,
+        }) if *number <= 6 => {
             format!("{number} {line} {offset}\n")
         }
         _ => "0 0 0\n".to_string(),
@@ -55,7 +67,10 @@ mod tests {
     fn negative_figures_are_written_as_two_to_the_64th_more() {
         let mut figures = [0; 11];
         figures[8] = -1;
-        let written = report(&Ok(Judgement { verdicts: [0; 8], figures }));
+        let written = report(&Ok(Judgement {
+            verdicts: [0; 8],
+            figures,
+        }));
         assert_eq!(&written[32 + 8 * 16..32 + 9 * 16], "FFFFFFFFFFFFFFFF");
     }
 }

@@ -1,9 +1,9 @@
 //! The angle of roll to windward (Code 2.3.4): the period from GM and the
 //! hull, then the four factors out of their tables.
 
+use crate::book::Ship;
 use crate::line::{down, read_up, root_down, root_up, up, Point};
 use crate::loading::Laden;
-use crate::parse::Ship;
 
 pub const X1: [Point; 11] = [
     (2_400, 1_000),
@@ -19,8 +19,14 @@ pub const X1: [Point; 11] = [
     (3_500, 800),
 ];
 
-pub const X2: [Point; 6] =
-    [(450, 750), (500, 820), (550, 890), (600, 950), (650, 970), (700, 1_000)];
+pub const X2: [Point; 6] = [
+    (450, 750),
+    (500, 820),
+    (550, 890),
+    (600, 950),
+    (650, 970),
+    (700, 1_000),
+];
 
 pub const K: [Point; 8] = [
     (0, 1_000),

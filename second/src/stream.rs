@@ -35,7 +35,10 @@ fn up_to(input: &mut impl Read, count: u64) -> io::Result<Vec<u8>> {
 }
 
 fn cut(what: &str) -> io::Error {
-    io::Error::new(io::ErrorKind::UnexpectedEof, format!("the stream ends within {what}"))
+    io::Error::new(
+        io::ErrorKind::UnexpectedEof,
+        format!("the stream ends within {what}"),
+    )
 }
 
 #[cfg(test)]

@@ -26,7 +26,7 @@ pub fn lines(text: &[u8]) -> Result<Vec<Vec<u8>>, Refusal> {
 }
 
 fn bytes_of(piece: &[u8]) -> Option<Vec<u8>> {
-    if piece.is_empty() || piece.len() % 2 != 0 {
+    if piece.is_empty() || piece.len() % 2 == 1 {
         return None;
     }
     piece

@@ -44,6 +44,10 @@ pub full-none : (s : List ℕ) → length s ≡ 0 → full s ≡ false
 full-none [] h = refl
 full-none (x ∷ s) h = absurd (omega arith)
 
+pub full-length : (s : List ℕ) → full s ≡ true → 0 < length s
+full-length [] e = absurd (let z : _≡_ {A = ℕ} 0 1 = cc in omega arith)
+full-length (x ∷ s) e = omega arith
+
 pub part-end : (s : List ℕ) (a : ℕ) → part a (length s) s ≡ drop a s
 part-end s a = take-all (length s - a) (drop a s) (rw (length-drop a s) (omega arith))
 
@@ -52,25 +56,22 @@ length-part s a e h = length-take-le (e - a) (drop a s) (rw (length-drop a s) (o
 
 -- ---- the head of a block: 2, or its tag, body and rest
 module _ (s : List ℕ) (ln at : ℕ) where
-  pub header-short : length s < 3 → header ln at s ≡ refused 2 ln at
-  unfolding header
-  header-short p = go s p
+  -- There are fewer bytes than a head and its length ask for: too few for a head, or the length runs past.
+  pub header-overrun : length s < 3 + be2 s 1 → header ln at s ≡ refused 2 ln at
+  unfolding header num
+  header-overrun p = go s p
     where
-      go : (s : List ℕ) → length s < 3 → header ln at s ≡ refused 2 ln at
+      go : (s : List ℕ) → length s < 3 + be2 s 1 → header ln at s ≡ refused 2 ln at
       go [] p = refl
       go (a ∷ []) p = refl
       go (a ∷ b ∷ []) p = refl
-      go (a ∷ b ∷ c ∷ s) p = absurd (omega arith)
+      go (a ∷ b ∷ c ∷ s) p = test-refused _ _ _ _ (lt-leb (num (b ∷ c ∷ [])) (length s) (omega arith))
+
+  pub header-short : length s < 3 → header ln at s ≡ refused 2 ln at
+  header-short p = header-overrun (omega arith)
 
   pub header-over : 3 ≤ length s → length s - 3 < be2 s 1 → header ln at s ≡ refused 2 ln at
-  unfolding header num
-  header-over p q = go s p q
-    where
-      go : (s : List ℕ) → 3 ≤ length s → length s - 3 < be2 s 1 → header ln at s ≡ refused 2 ln at
-      go [] p q = absurd (omega arith)
-      go (a ∷ []) p q = absurd (omega arith)
-      go (a ∷ b ∷ []) p q = absurd (omega arith)
-      go (a ∷ b ∷ c ∷ s) p q = test-refused _ _ _ _ (lt-leb (num (b ∷ c ∷ [])) (length s) (omega arith))
+  header-over p q = header-overrun (omega arith)
 
   pub header-block : (n : ℕ) → n ≡ be2 s 1 → 3 + n ≤ length s → header ln at s ≡ got (headAt (getD s 0 0) n s)
   unfolding header num

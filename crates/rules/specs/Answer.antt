@@ -8,7 +8,7 @@ use Rattle.rules.specs.Layout.{Reading}
 use Rattle.rules.specs.Answers.{Ans, refused, got, _>>=_, _>>_}
 use Rattle.rules.specs.Walk.{read}
 use Rattle.rules.specs.Loading.{weighed}
-use Rattle.rules.specs.Curve.{Loaded, loaded}
+use Rattle.rules.specs.Curve.{loaded}
 use Rattle.rules.specs.Report.{Judgement, judgement, noJudgement, report, reportLength}
 
 -- A reading is judged, or refused with 7 or 8: on the reading, never on the text.

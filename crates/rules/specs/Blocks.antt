@@ -1,7 +1,7 @@
 -- Blocks: 'tag (1 byte), length (2 bytes), body of that length'. Each block of fixed size is one table of fields with their limits.
 use mathlib.Core.Bool.{Bool, true, false, _&&_, _||_}
 use mathlib.Core.List.{List, [], _∷_, _++_}
-use Prim.Native.Nat.{ℕ, suc, _+_}
+use Prim.Native.Nat.{ℕ, _+_}
 use lib.Dec.{leb, ltb, eqb}
 use lib.ListN.{length, take, drop, getD, replicate}
 use Rattle.rules.specs.Numbers.{num, digits}

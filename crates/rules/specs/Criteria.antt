@@ -1,11 +1,11 @@
 -- 'The eight criteria', 1 to 7: each figure, each limit, each verdict.
 use mathlib.Core.Bool.{Bool, true, false, cond, _&&_}
-use Prim.Native.Nat.{ℕ, suc, _+_, _-_, _*_, min}
+use Prim.Native.Nat.{ℕ, _-_, _*_, min}
 use lib.Dec.{leb, ltb}
 use lib.IntN.{ℤ, pos, negsuc, subℕ}
 use lib.Signed.{leZ}
-use Rattle.rules.specs.Rounding.{ceil, first, firstIn, peak, sumZ}
-use Rattle.rules.specs.Curve.{Loaded, leverZ, lever, y, E, area}
+use Rattle.rules.specs.Rounding.{ceil, firstIn, peak}
+use Rattle.rules.specs.Curve.{Loaded, lever, y, E, area}
 
 -- A set of criteria is its limits. Areas in y units: one metre-degree is 10^11, rounded up from 0.055, 0.03 and 0.09 m·rad.
 pub record Criteria : Type 0 where
@@ -23,27 +23,22 @@ code = record { area1 = 315_126_800_000; area2 = 171_887_400_000; area3 = 515_66
 
 -- 1. 'Area 0 to min(300, E).'
 unfoldable pub area1 : Loaded → ℤ
-unfolding area sumZ leverZ lever
 area1 c = area (y c) (pos 0) (pos (min 300 (E c)))
 
 -- 2. 'Area 300 to min(400, E).'
 unfoldable pub area2 : Loaded → ℤ
-unfolding area sumZ leverZ lever
 area2 c = area (y c) (pos 300) (pos (min 400 (E c)))
 
 -- 3. 'Area 0 to min(400, E).'
 unfoldable pub area3 : Loaded → ℤ
-unfolding area sumZ leverZ lever
 area3 c = area (y c) (pos 0) (pos (min 400 (E c)))
 
 -- 4. 'Greatest y from 300 to E .. If E < 300: fail, figure 0.'
 unfoldable pub greatestLever : Loaded → ℤ
-unfolding peak leverZ lever
 greatestLever c = elim (ltb (E c) 300) [ true ↦ pos 0 | false ↦ y c (pos (peak (λ t. y c (pos t)) 300 (E c - 300))) ]
 
 -- 5. 'The first t in 0..E with the greatest y.'
 unfoldable pub angleOfGreatest : Loaded → ℕ
-unfolding peak leverZ lever
 angleOfGreatest c = peak (λ t. y c (pos t)) 0 (E c)
 
 -- 6. 'GM = KM - KG.'
@@ -55,7 +50,6 @@ unfoldable pub lw1 : Loaded → ℕ
 lw1 c = ceil (5040 * c .weather .windArea * c .weather .z) (981 * c .w)
 
 unfoldable pub lw2 : Loaded → ℕ
-unfolding lw1
 lw2 c = ceil (3 * lw1 c) 2
 
 abbrev pub units : ℕ → ℤ
@@ -63,12 +57,10 @@ units l = pos (5_000_000 * l)
 
 -- The first t from t₀ to e with y at least a level; past e where there is none.
 unfoldable pub reaches : (ℤ → ℤ) → ℤ → ℕ → ℕ → ℕ
-unfolding firstIn first
 reaches f level t e = firstIn (λ k. leZ level (f (pos k))) t e
 
 -- 'phi0 = first t in 0..E with y >= lw1.' Past E where there is none.
 unfoldable pub phi0 : Loaded → ℕ
-unfolding reaches lw1 leverZ lever
 phi0 c = reaches (y c) (units (lw1 c)) 0 (E c)
 
 -- 'None: .. phi0 is -1.'
@@ -77,23 +69,18 @@ phi0Figure c = cond (leb (phi0 c) (E c)) (pos (phi0 c)) (negsuc 0)
 
 -- ---- the verdicts
 unfoldable pub passes1 : Loaded → Bool
-unfolding area1
 passes1 c = leZ (pos (code .area1)) (area1 c)
 
 unfoldable pub passes2 : Loaded → Bool
-unfolding area2
 passes2 c = leZ (pos (code .area2)) (area2 c)
 
 unfoldable pub passes3 : Loaded → Bool
-unfolding area3
 passes3 c = leZ (pos (code .area3)) (area3 c)
 
 unfoldable pub passes4 : Loaded → Bool
-unfolding greatestLever
 passes4 c = leb 300 (E c) && leZ (pos (code .lever)) (greatestLever c)
 
 unfoldable pub passes5 : Loaded → Bool
-unfolding angleOfGreatest
 passes5 c = leb (code .angle) (angleOfGreatest c)
 
 unfoldable pub passes6 : Loaded → Bool
@@ -101,5 +88,4 @@ passes6 c = leZ (pos (code .gm)) (gm c)
 
 -- 'Pass: phi0 <= 160 and 10 phi0 <= 8 x deck edge. None: fail.'
 unfoldable pub passes7 : Loaded → Bool
-unfolding phi0
 passes7 c = leb (phi0 c) (E c) && leb (phi0 c) (code .heel) && leb (10 * phi0 c) (8 * c .weather .deckEdge)

@@ -1,18 +1,17 @@
 -- 'Loading and curve': what the table gives at W, the levers at the stations, y at each tenth of a degree, and areas.
-use mathlib.Core.Bool.{Bool, true, false}
+use mathlib.Core.Bool.{true, false}
 use mathlib.Core.List.{List, [], _∷_, map}
-use Prim.Native.Nat.{ℕ, zero, suc, _+_, _-_, _*_, _/_, _%_}
+use Prim.Native.Nat.{ℕ, suc, _+_, _-_, _*_, _/_, _%_}
 use lib.ListN.{getD}
 use lib.IntN.{ℤ, pos, negsuc, negℤ, subℕ, natAbs, _+ℤ_, _-ℤ_}
 use lib.Signed.{ltZ}
-use Rattle.rules.specs.Rounding.{Point, point, down, onward, table, sumZ}
+use Rattle.rules.specs.Rounding.{point, down, onward, table, sumZ}
 use Rattle.rules.specs.Blocks.{Row, Ship, Weather}
 use Rattle.rules.specs.Layout.{Reading}
 use Rattle.rules.specs.Loading.{flat, total, displacement, correctedKG, entriesOf}
 
 -- 'd, KM and each KN lie linearly between the two rows around W, rounded down; on a row, that row.'
 unfoldable pub between : List Row → (Row → ℕ) → ℕ → ℕ
-unfolding table onward
 between rows f w = table down (map (λ r. point (r .mass) (f r)) rows) w
 
 -- The thirteen stations, 0, 5, .. 60°, by number.
@@ -20,7 +19,6 @@ abbrev pub stations : List ℕ
 stations = 0 ∷ 1 ∷ 2 ∷ 3 ∷ 4 ∷ 5 ∷ 6 ∷ 7 ∷ 8 ∷ 9 ∷ 10 ∷ 11 ∷ 12 ∷ []
 
 unfoldable pub knAt : List Row → ℕ → List ℕ
-unfolding between
 knAt rows w = map (λ i. between rows (λ r. getD (r .kn) i 0) w) stations
 
 -- What is judged: ship, weather, and what loading and table come to.
@@ -35,11 +33,10 @@ pub record Loaded : Type 0 where
 
 -- The ship at a displacement and a KG.
 unfoldable pub loadedAt : Ship → List Row → Weather → ℕ → ℕ → Loaded
-unfolding between knAt
 loadedAt s rows c w kg = record { ship = s; weather = c; w = w; kg = kg; draught = between rows (λ r. r .draught) w; km = between rows (λ r. r .km) w; kn = knAt rows w }
 
 unfoldable pub loaded : Reading → Loaded
-unfolding flat total displacement correctedKG loadedAt
+unfolding onward table flat total displacement correctedKG between knAt loadedAt
 loaded r = loadedAt (r .ship) (r .rows) (r .condition .weather) (displacement (entriesOf r)) (correctedKG (entriesOf r))
 
 -- 'Sines in 1/100,000.'
@@ -56,7 +53,6 @@ lever kn kg t = subℕ (100000 * fifty kn t) (kg * fifty sines t)
 
 -- 'y(-t) = -y(t).'
 unfoldable pub leverZ : List ℕ → ℕ → ℤ → ℤ
-unfolding lever
 leverZ kn kg (pos t) = lever kn kg t
 leverZ kn kg (negsuc t) = negℤ (lever kn kg (suc t))
 
@@ -69,5 +65,4 @@ E c = c .weather .flooding
 
 -- 'Area from p to q: sum of y(t) + y(t+1) for t from p to q-1; 0 if q <= p.'
 unfoldable pub area : (ℤ → ℤ) → ℤ → ℤ → ℤ
-unfolding sumZ
 area f p q = elim (ltZ p q) [ true ↦ sumZ (λ t. f t +ℤ f (t +ℤ pos 1)) (natAbs (q -ℤ p)) p | false ↦ pos 0 ]

@@ -2,7 +2,7 @@
 use mathlib.Core.Path.{_≡_}
 use mathlib.Core.Bool.{Bool, true, false}
 use mathlib.Core.List.{List, [], _∷_, _++_}
-use Prim.Native.Nat.{ℕ, zero, suc, _+_, max, _≤_, _<_}
+use Prim.Native.Nat.{ℕ, suc, _+_, max, _≤_, _<_}
 use lib.ListN.{length}
 use Rattle.rules.specs.Text.{text}
 use Rattle.rules.specs.Blocks.{block, ok, spellBlock, Ship, ship, Row, row, conditionTag, Weather, weather, Load, Values, entry, groupTag}

@@ -1,12 +1,12 @@
 -- 'Loading': the entries one by one, the displacement W, the free surfaces and the corrected KG; and the refusals 7 and 8.
-use mathlib.Core.Bool.{Bool, true, false, cond, _&&_}
+use mathlib.Core.Bool.{Bool, cond, _&&_}
 use mathlib.Core.List.{List, [], _∷_, _++_}
 use Prim.Native.Nat.{ℕ, _+_, _*_}
 use lib.Dec.{leb, ltb}
 use Rattle.rules.specs.Rounding.{ceil}
 use Rattle.rules.specs.Blocks.{Row, Load, item, tank, Values}
 use Rattle.rules.specs.Layout.{Entries, end, leaf, group, Reading}
-use Rattle.rules.specs.Answers.{Ans, got, test, _>>=_, _>>_}
+use Rattle.rules.specs.Answers.{Ans, test, _>>=_, _>>_}
 
 -- An item or a tank with its values.
 pub record Entry : Type 0 where
@@ -51,12 +51,10 @@ freeSurface e = freeSurfaceOf (e .kind) (e .values)
 
 -- 'W = sum of masses.'
 unfoldable pub displacement : List Entry → ℕ
-unfolding total
 displacement es = total mass es
 
 -- 'KG = (sum of mass x centre + free surface moments) / W, rounded up.'
 unfoldable pub correctedKG : List Entry → ℕ
-unfolding total displacement
 correctedKG es = ceil (total moment es + total freeSurface es) (displacement es)
 
 -- The W of the first row, and of the last.
@@ -71,7 +69,6 @@ lastMass (r ∷ s ∷ rs) = lastMass (s ∷ rs)
 
 -- 7: 'total mass below the first row or above the last'.
 unfoldable pub inTable : List Row → ℕ → Bool
-unfolding firstMass lastMass
 inTable rows w = leb (firstMass rows) w && leb w (lastMass rows)
 
 -- 8: 'corrected KG above 60,000'.
@@ -83,7 +80,7 @@ entriesOf r = flat (r .condition .load)
 
 -- '.. then 7; then 8.' 'For 7, 8 and 9 both are 0.'
 unfoldable pub weighed : Reading → Ans (Unit {0})
-unfolding flat total displacement correctedKG inTable test _>>=_ _>>_
+unfolding flat total displacement correctedKG firstMass lastMass inTable test _>>=_ _>>_
 weighed r = do
   test (inTable (r .rows) (displacement (entriesOf r))) 7 0 0
   test (leb (correctedKG (entriesOf r)) greatestKG) 8 0 0

@@ -1,13 +1,13 @@
 -- Criterion 8, severe wind and rolling (Code 2.3): the roll, the start, the gust, and the net area.
 use mathlib.Core.Bool.{Bool, true, false, _||_}
 use mathlib.Core.List.{List, [], _∷_}
-use Prim.Native.Nat.{ℕ, suc, _+_, _-_, _*_, _/_, _^_, min}
+use Prim.Native.Nat.{ℕ, _+_, _-_, _*_, _/_, _^_, min}
 use lib.Dec.{leb, ltb, eqb}
-use lib.IntN.{ℤ, pos, negsuc, negℤ, subℕ, natAbs, _+ℤ_, _-ℤ_, _*ℤ_}
+use lib.IntN.{ℤ, pos, subℕ, natAbs, _+ℤ_, _-ℤ_, _*ℤ_}
 use lib.Signed.{leZ, ltZ}
-use Rattle.rules.specs.Rounding.{ceil, ceilZ, Point, point, up, onward, table, first, firstIn, greatest, sumZ}
+use Rattle.rules.specs.Rounding.{ceil, ceilZ, Point, point, up, table, first, firstIn, greatest}
 use Rattle.rules.specs.Blocks.{Ship}
-use Rattle.rules.specs.Curve.{Loaded, lever, leverZ, y, E, area}
+use Rattle.rules.specs.Curve.{Loaded, y, E, area}
 use Rattle.rules.specs.Criteria.{lw1, lw2, units, reaches, phi0}
 
 -- ---- Roll (Code 2.3.4)
@@ -17,12 +17,10 @@ b c = 1000 * c .ship .breadth / c .draught
 
 -- 'C = 373,000 + 23 b - (43 L/100, up).'
 unfoldable pub C : Loaded → ℕ
-unfolding b
 C c = 373_000 + 23 * b c - ceil (43 * c .ship .hullLength) 100
 
 -- 'q = 2 C B / 10^6, down.'
 unfoldable pub q : Loaded → ℕ
-unfolding C
 q c = 2 * C c * c .ship .breadth / 10 ^ 6
 
 -- 'n >= 2000' is not judged, so no more is asked of it.
@@ -31,7 +29,6 @@ longestPeriod = 2000
 
 -- 'Period n (0.01 s) = greatest with n² GM <= 10 q²', up to 2,000.
 unfoldable pub period : Loaded → ℕ
-unfolding q greatest
 period c = greatest (λ n. leb (n * n * (c .km - c .kg)) (10 * q c * q c)) longestPeriod
 
 -- 'Tables linear between points, flat beyond, rounded up.' In thousandths, s in ten-thousandths.
@@ -55,24 +52,19 @@ keelIndex s = 10 ^ 9 * s .keelArea / (s .hullLength * s .breadth)
 
 -- 'A sharp bilge has k 700 at once.'
 unfoldable pub k : Loaded → ℕ
-unfolding keelIndex table onward
 k c = elim (eqb (c .ship .bilge) 1) [ true ↦ 700 | false ↦ table up K (keelIndex (c .ship)) ]
 
 unfoldable pub x1 : Loaded → ℕ
-unfolding b table onward
 x1 c = table up X1 (b c)
 
 unfoldable pub x2 : Loaded → ℕ
-unfolding table onward
 x2 c = table up X2 (c .weather .cb)
 
 unfoldable pub s : Loaded → ℕ
-unfolding period table onward
 s c = table up S (period c)
 
 -- 'p = k X1 / 1000, up; then times X2 / 1000, up.'
 unfoldable pub p : Loaded → ℕ
-unfolding k x1 x2
 p c = ceil (ceil (k c * x1 c) 1000 * x2 c) 1000
 
 -- 'r = 730 + 600 (KG - d)/d, the quotient rounded up, also below zero.'
@@ -88,13 +80,11 @@ widestRoll = 600
 
 -- 'phi1 = least m with 10^13 m² >= 1090² p² r s.'
 unfoldable pub phi1 : Loaded → ℕ
-unfolding p rOf s first
 phi1 c = let product = 1090 * 1090 * p c * p c * natAbs (r c) * s c in first (λ m. leb product (10 ^ 13 * m * m)) widestRoll 0
 
 -- ---- the gust
 -- 'Start = phi0 if y(phi0) = lw1, else phi0 - 1; less phi1.' At phi0 y is no less than lw1.
 unfoldable pub start : Loaded → ℤ
-unfolding phi0 phi1 leverZ lever lw1
 start c = elim (leZ (y c (pos (phi0 c))) (units (lw1 c))) [ true ↦ pos (phi0 c) -ℤ pos (phi1 c) | false ↦ pos (phi0 c) -ℤ pos 1 -ℤ pos (phi1 c) ]
 
 -- 'min(E, 500).'
@@ -103,36 +93,29 @@ farthest c = min (E c) 500
 
 -- 'u = first t from phi0 to min(E, 500) with y >= lw2.' Past it where there is none.
 unfoldable pub u : Loaded → ℕ
-unfolding reaches phi0 lw2 leverZ lever
 u c = reaches (y c) (units (lw2 c)) (phi0 c) (farthest c)
 
 -- 'The last tenth of a degree up to which GZ stays at or above a level from t on, not beyond e': one before the first that is below it.
 unfoldable pub stays : (ℤ → ℤ) → ℤ → ℕ → ℕ → ℕ
-unfolding firstIn first
 stays f level t e = firstIn (λ k. ltZ (f (pos k)) level) t e - 1
 
 unfoldable pub e : Loaded → ℕ
-unfolding stays u lw2 leverZ lever
 e c = stays (y c) (units (lw2 c)) (u c) (farthest c)
 
 -- 'Net = area start to e, less 2 lw2 (e - start).'
 unfoldable pub net : Loaded → ℤ
-unfolding area sumZ start e lw2 leverZ lever
 net c = area (y c) (start c) (pos (e c)) -ℤ pos 2 *ℤ units (lw2 c) *ℤ (pos (e c) -ℤ start c)
 
 -- ---- the verdict
 -- 'Not judged (2) if GM <= 0, 10 B >= 35 d, KG outside 7d/10..15d/10 (ends judged), or n >= 2000.'
 unfoldable pub notJudged : Loaded → Bool
-unfolding period
 notJudged c =
     leb (c .km) (c .kg) || leb (35 * c .draught) (10 * c .ship .breadth) || ltb (10 * c .kg) (7 * c .draught) || ltb (15 * c .draught) (10 * c .kg) || leb longestPeriod (period c)
 
 -- 'Otherwise fail if phi0 is none'; 'u .. none: fail'.
 unfoldable pub noGust : Loaded → Bool
-unfolding phi0 u
 noGust c = ltb (E c) (phi0 c) || ltb (farthest c) (u c)
 
 -- 'Pass: net >= 0.'
 unfoldable pub passes8 : Loaded → Bool
-unfolding net
 passes8 c = leZ (pos 0) (net c)

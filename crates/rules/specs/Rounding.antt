@@ -51,7 +51,6 @@ onward way p (q ∷ qs) x = elim (ltb x (q .place)) [ true ↦ line way p q x | 
 
 -- 'Tables linear between points, flat beyond': flat before the first point too.
 unfoldable pub table : Way → List Point → ℕ → ℕ
-unfolding onward
 table way [] x = 0
 table way (p ∷ ps) x = onward way p ps (max x (p .place))
 
@@ -62,7 +61,6 @@ first p (suc n) t = elim (p t) [ true ↦ t | false ↦ first p n (suc t) ]
 
 -- The first of t, .., e that passes a test; past e where none does.
 unfoldable pub firstIn : (ℕ → Bool) → ℕ → ℕ → ℕ
-unfolding first
 firstIn p t e = first p (suc e - t) t
 
 -- The greatest of 0, .., n that passes a test; 0 where none does.

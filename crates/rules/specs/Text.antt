@@ -15,13 +15,11 @@ digit n = cond (ltb n 10) (48 + n) (55 + n)
 
 -- Bytes as characters, two digits to a byte.
 unfoldable pub hex : List ℕ → List ℕ
-unfolding digit
 hex [] = []
 hex (b ∷ s) = digit (b / 16) ∷ digit (b % 16) ∷ hex s
 
 -- Lines as characters.
 unfoldable pub text : List (List ℕ) → List ℕ
-unfolding hex
 text [] = []
 text (l ∷ ls) = hex l ++ (LF ∷ text ls)
 

@@ -24,15 +24,8 @@ pub fn add(cases: &mut Cases) {
 
 fn values(field: &Field) -> Vec<i128> {
     let most_held = (1 << (8 * field.width)) - 1;
-    let mut values = vec![
-        field.least - 1,
-        field.least,
-        field.least + 1,
-        field.most - 1,
-        field.most,
-        field.most + 1,
-        most_held,
-    ];
+    let (least, most) = (field.least, field.most);
+    let mut values = vec![least - 1, least, most, most + 1, most_held];
     values.retain(|&value| (0..=most_held).contains(&value));
     values.sort();
     values.dedup();
@@ -47,7 +40,10 @@ pub fn base(dice: &mut Dice) -> (Vessel, Draft) {
     let part = dice.between(1, vessel.mass / 4);
     let kg = vessel.kg;
     let deep = nested(2, vec![item(part, kg), tank(part, kg, 500, 1_025, 20)]);
-    let mut entries = vec![item(vessel.mass - 3 * part, kg), tank(part, kg, 990, 850, 30)];
+    let mut entries = vec![
+        item(vessel.mass - 3 * part, kg),
+        tank(part, kg, 990, 850, 30),
+    ];
     entries.extend(deep);
     let draft = vessel.draft(entries);
     (vessel, draft)
@@ -85,15 +81,26 @@ fn add_rising(cases: &mut Cases) {
 
 /// Fill 0 with and without a mass, and the fills where the free surface ends.
 fn add_tanks(cases: &mut Cases) {
-    for (fill, mass) in [(0, 0), (0, 1), (0, 600_000_000), (1, 0), (1, 5), (979, 5), (980, 5)] {
+    for (fill, mass) in [
+        (0, 0),
+        (0, 1),
+        (0, 600_000_000),
+        (1, 0),
+        (1, 5),
+        (979, 5),
+        (980, 5),
+    ] {
         for depth in [0, 4] {
-            cases.add(format!("fill {fill} mass {mass} depth {depth}"), move |dice| {
-                let vessel = vessel::judged(dice);
-                let tested = tank(mass, vessel.kg, fill, 1_025, 30);
-                let mut entries = nested(depth, vec![tested]);
-                entries.push(item((vessel.mass - mass).max(0), vessel.kg));
-                vessel.draft(entries).text()
-            });
+            cases.add(
+                format!("fill {fill} mass {mass} depth {depth}"),
+                move |dice| {
+                    let vessel = vessel::judged(dice);
+                    let tested = tank(mass, vessel.kg, fill, 1_025, 30);
+                    let mut entries = nested(depth, vec![tested]);
+                    entries.push(item((vessel.mass - mass).max(0), vessel.kg));
+                    vessel.draft(entries).text()
+                },
+            );
         }
     }
 }
@@ -110,8 +117,9 @@ fn all_at(dice: &mut Dice, end: fn(&Field) -> i128) -> Vec<u8> {
             draft.at(&path).values = ends.clone();
         }
     }
-    draft.condition().inner[2].values[0] = 0;
     let displacement = draft.frames[1].values[0];
+    draft.condition().inner[1].values[0] = displacement;
+    draft.condition().inner[2].values[0] = 0;
     let inward = if displacement == 100_000 { 2 } else { 1 };
     draft.frames[inward].values[0] += if inward == 2 { 1 } else { -1 };
     draft.text()

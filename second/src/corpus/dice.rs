@@ -11,7 +11,9 @@ impl Dice {
     pub fn new(seed: u64, number: u64) -> Dice {
         let mut dice = Dice { state: seed };
         let start = dice.throw();
-        Dice { state: start ^ number.wrapping_mul(STRIDE).rotate_left(23) }
+        Dice {
+            state: start ^ number.wrapping_mul(STRIDE).rotate_left(23),
+        }
     }
 
     pub fn throw(&mut self) -> u64 {

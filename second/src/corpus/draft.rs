@@ -2,8 +2,8 @@
 //! be told to lie about its tag and length, to be cut off, or to have bytes
 //! behind it that it does not count.
 
+use crate::book::{Row, Ship, Weather};
 use crate::layout::{self, A1, A2, A3, C1, C2, C3, C4};
-use crate::parse::{Row, Ship, Weather};
 
 #[derive(Clone, Debug)]
 pub struct Block {
@@ -58,14 +58,18 @@ impl Block {
         bytes
     }
 
-    pub fn is_form(&self, tag: u8) -> bool {
-        self.form == tag
+    pub fn form(&self) -> u8 {
+        self.form
     }
 }
 
 pub fn ship(ship: &Ship) -> Block {
     let bilge = i128::from(ship.sharp_bilge);
-    Block::new(A1, vec![ship.length, ship.breadth, ship.keel_area, bilge], Vec::new())
+    Block::new(
+        A1,
+        vec![ship.length, ship.breadth, ship.keel_area, bilge],
+        Vec::new(),
+    )
 }
 
 pub fn row(row: &Row) -> Block {
@@ -75,7 +79,13 @@ pub fn row(row: &Row) -> Block {
 }
 
 pub fn condition(weather: &Weather, entries: Vec<Block>) -> Block {
-    let Weather { wind_area, arm, block_coefficient, flooding, deck_edge } = *weather;
+    let Weather {
+        wind_area,
+        arm,
+        block_coefficient,
+        flooding,
+        deck_edge,
+    } = *weather;
     let values = vec![wind_area, arm, block_coefficient, flooding, deck_edge];
     let mut inner = vec![Block::new(C1, values, Vec::new())];
     inner.extend(entries);
@@ -119,10 +129,6 @@ impl Draft {
         &mut self.frames[last]
     }
 
-    pub fn weather(&mut self) -> &mut Block {
-        &mut self.condition().inner[0]
-    }
-
     /// The block at a path: a frame's index, then indices within blocks.
     pub fn at(&mut self, path: &[usize]) -> &mut Block {
         let mut block = &mut self.frames[path[0]];
@@ -144,7 +150,7 @@ impl Draft {
     pub fn paths_of(&self, tag: u8) -> Vec<Vec<usize>> {
         let mut paths = self.paths();
         let mut copy = self.clone();
-        paths.retain(|path| copy.at(path).is_form(tag));
+        paths.retain(|path| copy.at(path).form() == tag);
         paths
     }
 }

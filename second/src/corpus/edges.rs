@@ -7,24 +7,64 @@ use super::Cases;
 use crate::criteria::{AREA_30_TO_40, AREA_TO_30, AREA_TO_40, GREATEST_LEVER};
 use crate::curve::SINES;
 
-const TO_30: Search =
-    Search { flooding: (230, 330), weights: |e| area(0, e.min(300)), from: 1, figure: 3 };
-const FROM_30: Search =
-    Search { flooding: (330, 430), weights: |e| area(300, e.min(400)), from: 6, figure: 4 };
-const TO_40: Search =
-    Search { flooding: (310, 430), weights: |e| area(0, e.min(400)), from: 1, figure: 5 };
-const GREATEST: Search = Search { flooding: (300, 450), weights: lever, from: 1, figure: 6 };
+const TO_30: Search = Search {
+    flooding: (230, 330),
+    weights: |flooding| area(0, flooding.min(300)),
+    from: 1,
+    figure: 3,
+    prepare: |_| (),
+};
+
+/// An odd area needs a flooding angle beside a station with an odd sine, and
+/// before 30 degrees the one at 10 is the last of these.
+const TO_15: Search = Search {
+    flooding: (101, 149),
+    ..TO_30
+};
+
+const FROM_30: Search = Search {
+    flooding: (330, 430),
+    weights: |flooding| area(300, flooding.min(400)),
+    from: 6,
+    figure: 4,
+    prepare: |_| (),
+};
+
+const TO_40: Search = Search {
+    flooding: (310, 430),
+    weights: |flooding| area(0, flooding.min(400)),
+    from: 1,
+    figure: 5,
+    prepare: |_| (),
+};
+
+const GREATEST: Search = Search {
+    flooding: (300, 399),
+    weights: lever,
+    from: 1,
+    figure: 6,
+    prepare: lowered,
+};
+
+/// Levers that rise past 0.20 m between 35 and 40 degrees.
+fn lowered(vessel: &mut Vessel) {
+    let kg = vessel.kg;
+    let row = vessel.laden();
+    for (station, lever) in [(6, 120), (7, 150), (8, 260)] {
+        row.kn[station] = kg * SINES[station] / 100_000 + lever;
+    }
+}
 
 pub fn add(cases: &mut Cases) {
-    for (number, search, limit) in [
-        (1, &TO_30, AREA_TO_30),
-        (2, &FROM_30, AREA_30_TO_40),
-        (3, &TO_40, AREA_TO_40),
-        (4, &GREATEST, GREATEST_LEVER),
+    for (number, exact, beside, limit) in [
+        (1, &TO_30, &TO_15, AREA_TO_30),
+        (2, &FROM_30, &FROM_30, AREA_30_TO_40),
+        (3, &TO_40, &TO_40, AREA_TO_40),
+        (4, &GREATEST, &GREATEST, GREATEST_LEVER),
     ] {
-        for beside in [-1, 0, 1] {
-            cases.add(format!("criterion {number} limit {beside:+}"), move |dice| {
-                let vessel = solved(dice, search, limit + beside);
+        for (search, off) in [(beside, -1), (exact, 0), (beside, 1)] {
+            cases.add(format!("criterion {number} limit {off:+}"), move |dice| {
+                let vessel = solved(dice, search, limit + off);
                 vessel.text(dice)
             });
         }
@@ -43,7 +83,7 @@ pub fn add(cases: &mut Cases) {
 /// The first of the seed's vessels that can be solved for.
 fn solved(dice: &mut Dice, search: &Search, wanted: i128) -> Vessel {
     let mut vessel = vessel::judged(dice);
-    for _ in 0..40 {
+    for _ in 0..20 {
         if let Some(found) = search.vessel(dice, &vessel, wanted) {
             return found;
         }
@@ -56,7 +96,10 @@ fn solved(dice: &mut Dice, search: &Search, wanted: i128) -> Vessel {
 pub fn crest(vessel: &mut Vessel, station: usize) {
     let kg = vessel.kg;
     let kn = &mut vessel.laden().kn;
-    let highest = (0..13).map(|at| 100_000 * kn[at] - kg * SINES[at]).max().unwrap_or(0);
+    let highest = (0..13)
+        .map(|at| 100_000 * kn[at] - kg * SINES[at])
+        .max()
+        .unwrap_or(0);
     kn[station] = (highest + kg * SINES[station]) / 100_000 + 2;
 }
 
@@ -85,24 +128,27 @@ fn add_angles(cases: &mut Cases) {
 /// Equal greatest levers at two stations: the KG is one at which the sines'
 /// difference is a whole number of millimetres.
 fn add_ties(cases: &mut Cases) {
-    for (first, second, kg) in
-        [(3, 5, 5_000), (3, 5, 10_000), (2, 6, 20_000), (5, 7, 12_500), (6, 7, 50_000), (5, 6, 0), (4, 5, 0)]
-    {
-        cases.add(format!("equal levers at stations {first} and {second}, KG {kg}"), move |dice| {
-            let mut vessel = vessel::judged(dice);
-            let lift = kg - vessel.kg;
-            vessel.kg = kg;
-            vessel.weather.flooding = 600;
-            let row = vessel.laden();
-            row.km = (row.km + lift).clamp(0, 60_000);
-            for (kn, sine) in row.kn.iter_mut().zip(SINES).skip(1) {
-                *kn = (*kn + lift * sine / 100_000).clamp(0, 29_000);
-            }
-            crest(&mut vessel, first);
-            let row = vessel.laden();
-            row.kn[second] = row.kn[first] + kg * (SINES[second] - SINES[first]) / 100_000;
-            vessel.text(dice)
-        });
+    for (first, second, kg) in [
+        (3, 5, 5_000),
+        (3, 5, 10_000),
+        (2, 6, 20_000),
+        (5, 7, 12_500),
+        (6, 7, 50_000),
+        (5, 6, 0),
+        (4, 5, 0),
+    ] {
+        cases.add(
+            format!("equal levers at stations {first} and {second}, KG {kg}"),
+            move |dice| {
+                let mut vessel = vessel::judged(dice);
+                vessel.raise_to(kg);
+                vessel.weather.flooding = 600;
+                crest(&mut vessel, first);
+                let row = vessel.laden();
+                row.kn[second] = row.kn[first] + kg * (SINES[second] - SINES[first]) / 100_000;
+                vessel.text(dice)
+            },
+        );
     }
     cases.add("all levers 0", |dice| {
         let mut vessel = vessel::judged(dice);

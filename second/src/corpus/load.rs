@@ -12,7 +12,11 @@ pub fn spread(dice: &mut Dice, vessel: &Vessel, count: usize) -> Vec<Block> {
     let reach = vessel.kg / dice.between(2, 12);
     let mut entries = Vec::new();
     for left in (1..=count as i128).rev() {
-        let mass = if left == 1 { rest } else { dice.between(0, 2 * rest / left).min(rest) };
+        let mass = if left == 1 {
+            rest
+        } else {
+            dice.between(0, 2 * rest / left).min(rest)
+        };
         rest -= mass;
         let centre = (vessel.kg + dice.between(-reach, reach)).clamp(0, 60_000);
         entries.push(if dice.chance(40) {
@@ -32,7 +36,11 @@ fn some_tank(dice: &mut Dice, vessel: &Vessel, mass: i128, centre: i128) -> Bloc
         3 => 1,
         _ => dice.between(1, 1_000),
     };
-    let fill = if mass == 0 && dice.chance(50) { 0 } else { fill };
+    let fill = if mass == 0 && dice.chance(50) {
+        0
+    } else {
+        fill
+    };
     let density = dice.pick(&[1_025, 1_000, 850, 960, 0, 2_000]);
     let widest = (vessel.mass / 40_000).clamp(1, 100_000);
     tank(mass, centre, fill, density, dice.between(0, widest))

@@ -24,10 +24,12 @@ use dice::Dice;
 
 type Make = Box<dyn Fn(&mut Dice) -> Vec<u8>>;
 
-/// A systematic case: its name and how its text is made.
+/// A systematic case: its name, how its text is made, and whether the text
+/// is a long one that a small corpus goes without.
 pub struct Case {
-    pub name: String,
-    pub make: Make,
+    name: String,
+    make: Make,
+    long: bool,
 }
 
 /// The list that each part of the corpus adds its cases to.
@@ -38,7 +40,19 @@ pub struct Cases {
 
 impl Cases {
     fn add(&mut self, name: impl Into<String>, make: impl Fn(&mut Dice) -> Vec<u8> + 'static) {
-        self.list.push(Case { name: name.into(), make: Box::new(make) });
+        self.list.push(Case {
+            name: name.into(),
+            make: Box::new(make),
+            long: false,
+        });
+    }
+
+    fn add_long(&mut self, name: impl Into<String>, make: impl Fn(&mut Dice) -> Vec<u8> + 'static) {
+        self.list.push(Case {
+            name: name.into(),
+            make: Box::new(make),
+            long: true,
+        });
     }
 }
 
@@ -49,7 +63,8 @@ pub struct Corpus {
 }
 
 impl Corpus {
-    /// With `small`, the texts by chance stay short.
+    /// With `small`, some long systematic cases are left out and the texts by
+    /// chance stay short.
     pub fn new(seed: u64, small: bool) -> Corpus {
         let mut cases = Cases::default();
         bounds::add(&mut cases);
@@ -61,12 +76,25 @@ impl Corpus {
         faults::add(&mut cases);
         characters::add(&mut cases);
         sizes::add(&mut cases);
-        Corpus { seed, small, cases: cases.list }
+        cases.list.retain(|case| !(small && case.long));
+        Corpus {
+            seed,
+            small,
+            cases: cases.list,
+        }
+    }
+
+    /// The names of the systematic cases, in the order of their texts.
+    pub fn names(&self) -> impl Iterator<Item = &str> {
+        self.cases.iter().map(|case| case.name.as_str())
     }
 
     pub fn text(&self, number: u64) -> Vec<u8> {
         let mut dice = Dice::new(self.seed, number);
-        match usize::try_from(number).ok().and_then(|number| self.cases.get(number)) {
+        match usize::try_from(number)
+            .ok()
+            .and_then(|number| self.cases.get(number))
+        {
             Some(case) => (case.make)(&mut dice),
             None => chance::text(&mut dice, self.small),
         }

@@ -5,7 +5,8 @@
 use super::dice::Dice;
 use super::vessel::Vessel;
 use crate::criteria::{judge, Judgement};
-use crate::curve::SINES;
+use crate::curve::{Curve, SINES};
+use crate::loading::Laden;
 
 pub type Weights = [i128; 13];
 
@@ -37,8 +38,23 @@ pub fn area(from: i128, to: i128) -> Weights {
     weights
 }
 
-fn sine_sum(weights: &Weights) -> i128 {
-    weights.iter().zip(SINES).map(|(weight, sine)| weight * sine).sum()
+pub fn sine_sum(weights: &Weights) -> i128 {
+    weights
+        .iter()
+        .zip(SINES)
+        .map(|(weight, sine)| weight * sine)
+        .sum()
+}
+
+/// The curve whose g is the sine: its areas are the sine sums of areas.
+pub fn sine_curve() -> Curve {
+    Curve::of(&Laden {
+        displacement: 1,
+        kg: -1,
+        draught: 1,
+        km: 0,
+        kn: vec![0; 13],
+    })
 }
 
 fn common_divisor(a: i128, b: i128) -> i128 {
@@ -57,7 +73,9 @@ fn kn_sum(weights: &Weights, kn: &[i128], kg: i128, figure: i128, from: usize) -
         return None;
     }
     let sum: i128 = weights.iter().zip(kn).map(|(weight, kn)| weight * kn).sum();
-    let divisor = weights[from..].iter().fold(0, |all, &weight| common_divisor(all, weight));
+    let divisor = weights[from..]
+        .iter()
+        .fold(0, |all, &weight| common_divisor(all, weight));
     let missing = needed / 100_000 - sum;
     (divisor != 0 && missing % divisor == 0).then_some(missing)
 }
@@ -68,20 +86,38 @@ pub fn fit(kn: &mut [i128], weights: &Weights, kg: i128, figure: i128, from: usi
     let Some(mut missing) = kn_sum(weights, kn, kg, figure, from) else {
         return false;
     };
-    let total: i128 = weights[from..].iter().sum();
     let mut stations: Vec<usize> = (from..13).filter(|&at| weights[at] > 0).collect();
-    if total != 0 {
-        for &station in &stations {
-            kn[station] += missing / total;
-        }
-        missing -= missing / total * stations.iter().map(|&at| weights[at]).sum::<i128>();
+    let total: i128 = stations.iter().map(|&at| weights[at]).sum();
+    if total == 0 {
+        return false;
     }
+    for &station in &stations {
+        kn[station] += missing / total;
+    }
+    missing %= total;
     stations.sort_by_key(|&station| -weights[station]);
-    for station in stations {
-        kn[station] += missing.div_euclid(weights[station]);
-        missing = missing.rem_euclid(weights[station]);
+    settle(kn, weights, &stations, missing) && kn.iter().all(|kn| (0..=MOST_KN).contains(kn))
+}
+
+/// Puts what is still missing on the station of the greatest weight, after
+/// the two of the least have taken what that weight does not divide.
+fn settle(kn: &mut [i128], weights: &Weights, stations: &[usize], missing: i128) -> bool {
+    let [.., small] = *stations else {
+        return false;
+    };
+    let (big, middle) = (stations[0], stations[stations.len().saturating_sub(2)]);
+    for middles in 0..50 {
+        for smalls in -600..=600 {
+            let rest = missing - middles * weights[middle] - smalls * weights[small];
+            if rest % weights[big] == 0 {
+                kn[big] += rest / weights[big];
+                kn[middle] += middles;
+                kn[small] += smalls;
+                return true;
+            }
+        }
     }
-    missing == 0 && kn.iter().all(|kn| (0..=MOST_KN).contains(kn))
+    false
 }
 
 /// A vessel whose figure comes out as wanted: KG and the flooding angle are
@@ -91,32 +127,37 @@ pub struct Search {
     pub weights: fn(i128) -> Weights,
     pub from: usize,
     pub figure: usize,
+    /// What is done to the vessel once its KG is set.
+    pub prepare: fn(&mut Vessel),
 }
 
-const TRIES: usize = 300;
+/// How far KG may go from the vessel's own: near first, then anywhere.
+const REACHES: [i128; 2] = [700, 24_000];
 
 impl Search {
     pub fn vessel(&self, dice: &mut Dice, base: &Vessel, wanted: i128) -> Option<Vessel> {
         let (least, most) = self.flooding;
         let turn = dice.between(0, most - least);
-        let mut tries = 0;
-        for step in 0..=most - least {
-            let flooding = least + (turn + step) % (most - least + 1);
-            let weights = (self.weights)(flooding);
-            for kg in base.kg - 700..=base.kg + 700 {
-                let mut vessel = base.clone();
-                vessel.kg = kg;
-                vessel.weather.flooding = flooding;
-                if !fit(&mut vessel.laden().kn, &weights, kg, wanted, self.from) {
-                    continue;
-                }
-                if figures(&vessel).is_some_and(|judged| judged.figures[self.figure] == wanted) {
-                    return Some(vessel);
-                }
-                tries += 1;
-                if tries == TRIES {
-                    return None;
-                }
+        REACHES.iter().find_map(|&reach| {
+            (0..=most - least)
+                .map(|step| least + (turn + step) % (most - least + 1))
+                .find_map(|flooding| self.at(base, flooding, reach, wanted))
+        })
+    }
+
+    fn at(&self, base: &Vessel, flooding: i128, reach: i128, wanted: i128) -> Option<Vessel> {
+        let weights = (self.weights)(flooding);
+        let sines = sine_sum(&weights);
+        let reachable = |kg: &i128| (wanted + kg * sines) % 100_000 == 0;
+        for kg in ((base.kg - reach).max(0)..=base.kg + reach).filter(reachable) {
+            let mut vessel = base.clone();
+            vessel.raise_to(kg);
+            vessel.weather.flooding = flooding;
+            (self.prepare)(&mut vessel);
+            if fit(&mut vessel.laden().kn, &weights, kg, wanted, self.from)
+                && figures(&vessel).is_some_and(|judged| judged.figures[self.figure] == wanted)
+            {
+                return Some(vessel);
             }
         }
         None

@@ -3,8 +3,8 @@
 
 use super::dice::Dice;
 use super::draft::{self, Block, Draft};
+use crate::book::{Row, Ship, Weather};
 use crate::curve::SINES;
-use crate::parse::{Row, Ship, Weather};
 
 #[derive(Clone, Debug)]
 pub struct Vessel {
@@ -17,8 +17,9 @@ pub struct Vessel {
 
 /// What KN has beyond KM x sine, in thousandths of its amplitude.
 const LATE: [i128; 13] = [0, 2, 15, 50, 120, 230, 400, 600, 800, 950, 1_000, 950, 800];
-const EARLY: [i128; 13] =
-    [0, 20, 110, 300, 500, 560, 430, 150, -300, -900, -1_600, -2_400, -3_300];
+const EARLY: [i128; 13] = [
+    0, 20, 110, 300, 500, 560, 430, 150, -300, -900, -1_600, -2_400, -3_300,
+];
 const MIDDLE: [i128; 13] = [0, 5, 40, 130, 300, 520, 750, 900, 930, 800, 500, 50, -600];
 
 impl Vessel {
@@ -37,7 +38,10 @@ impl Vessel {
     /// The row that the mass stands on, or the last one.
     pub fn laden(&mut self) -> &mut Row {
         let last = self.rows.len() - 1;
-        let found = self.rows.iter().position(|row| row.displacement == self.mass);
+        let found = self
+            .rows
+            .iter()
+            .position(|row| row.displacement == self.mass);
         &mut self.rows[found.unwrap_or(last)]
     }
 
@@ -45,6 +49,18 @@ impl Vessel {
     pub fn set_gm(&mut self, gm: i128) {
         let km = self.kg + gm;
         self.laden().km = km;
+    }
+
+    /// Another KG, with KM and KN of the laden row raised along with it so
+    /// that GM and the curve stay about the same.
+    pub fn raise_to(&mut self, kg: i128) {
+        let lift = kg - self.kg;
+        self.kg = kg;
+        let row = self.laden();
+        row.km = (row.km + lift).clamp(0, 60_000);
+        for (kn, sine) in row.kn.iter_mut().zip(SINES).skip(1) {
+            *kn = (*kn + lift * sine / 100_000).clamp(0, 29_000);
+        }
     }
 }
 
@@ -56,13 +72,18 @@ pub fn level(dice: &mut Dice, mass: i128, kg: i128) -> Vec<Block> {
         0 => vec![draft::item(mass, kg)],
         1 => vec![item, draft::item(part, kg)],
         2 => vec![draft::tank(part, kg, 980, 1_025, 400), item],
-        _ => vec![draft::group(vec![item, draft::tank(part, kg, 1_000, 850, 9)])],
+        _ => vec![draft::group(vec![
+            item,
+            draft::tank(part, kg, 1_000, 850, 9),
+        ])],
     }
 }
 
 fn kn_of(km: i128, form: &[i128; 13], amplitude: i128) -> Vec<i128> {
     let at = |station: usize| km * SINES[station] / 100_000 + amplitude * form[station] / 1_000;
-    (0..13).map(|station| at(station).clamp(0, 30_000)).collect()
+    (0..13)
+        .map(|station| at(station).clamp(0, 30_000))
+        .collect()
 }
 
 fn displaced(ship: &Ship, draught: i128, block_coefficient: i128) -> i128 {
@@ -81,14 +102,26 @@ fn weather(dice: &mut Dice, ship: &Ship, draught: i128) -> Weather {
     Weather {
         wind_area: (ship.length * height / 100_000).min(300_000),
         arm: ((draught + height) / 2).min(60_000),
-        block_coefficient: if dice.chance(8) { dice.between(200, 1_000) } else { dice.between(430, 880) },
+        block_coefficient: if dice.chance(8) {
+            dice.between(200, 1_000)
+        } else {
+            dice.between(430, 880)
+        },
         flooding,
-        deck_edge: if dice.chance(10) { dice.between(1, 600) } else { dice.between(90, 350) },
+        deck_edge: if dice.chance(10) {
+            dice.between(1, 600)
+        } else {
+            dice.between(90, 350)
+        },
     }
 }
 
 fn keel_area(dice: &mut Dice, ship: &Ship) -> i128 {
-    let index = if dice.chance(30) { 0 } else { dice.between(1, 5_000) };
+    let index = if dice.chance(30) {
+        0
+    } else {
+        dice.between(1, 5_000)
+    };
     (ship.length * ship.breadth * index / 1_000_000_000).min(20_000)
 }
 
@@ -108,7 +141,12 @@ fn rows(dice: &mut Dice, ship: &Ship, full: (i128, i128), count: usize) -> Vec<R
             let metacentre = ship.breadth * ship.breadth * spread / (1_200 * here);
             let km = (here * 53 / 100 + metacentre).min(60_000);
             let kn = kn_of(km, &form, amplitude);
-            Row { displacement: carried.clamp(100_000, 600_000_000), draught: here, km, kn }
+            Row {
+                displacement: carried.clamp(100_000, 600_000_000),
+                draught: here,
+                km,
+                kn,
+            }
         })
         .collect()
 }
@@ -119,10 +157,18 @@ pub fn any(dice: &mut Dice, count: usize) -> Vessel {
     let length = 24_000 + 376_000 * scale * scale * scale / 1_000_000;
     let breadth = (length * 10 / dice.between(35, 80)).clamp(3_000, 70_000);
     let draught = (breadth * 1_000 / dice.between(2_000, 3_700)).clamp(500, 28_000);
-    let mut ship = Ship { length, breadth, keel_area: 0, sharp_bilge: dice.chance(10) };
+    let mut ship = Ship {
+        length,
+        breadth,
+        keel_area: 0,
+        sharp_bilge: dice.chance(10),
+    };
     ship.keel_area = keel_area(dice, &ship);
     let weather = weather(dice, &ship, draught);
-    let full = (displaced(&ship, draught, weather.block_coefficient), draught);
+    let full = (
+        displaced(&ship, draught, weather.block_coefficient),
+        draught,
+    );
     let rows = rows(dice, &ship, full, count);
     let below = dice.index(rows.len().saturating_sub(1));
     let above = (below + 1).min(rows.len() - 1);
@@ -134,7 +180,13 @@ pub fn any(dice: &mut Dice, count: usize) -> Vessel {
         2..=6 => dice.between(200, 1_200),
         _ => dice.between(breadth / 100, breadth / 10),
     };
-    Vessel { ship, rows, weather, mass, kg: (km - gm).clamp(0, 60_000) }
+    Vessel {
+        ship,
+        rows,
+        weather,
+        mass,
+        kg: (km - gm).clamp(0, 60_000),
+    }
 }
 
 /// A ship that criterion 8 judges, loaded exactly on one of its two or three
@@ -142,7 +194,12 @@ pub fn any(dice: &mut Dice, count: usize) -> Vessel {
 pub fn judged_at(dice: &mut Dice, draught: i128, fullness: i128) -> Vessel {
     let breadth = draught * fullness / 1_000;
     let length = breadth * dice.between(50, 75) / 10;
-    let ship = Ship { length, breadth, keel_area: 0, sharp_bilge: false };
+    let ship = Ship {
+        length,
+        breadth,
+        keel_area: 0,
+        sharp_bilge: false,
+    };
     let weather = Weather {
         wind_area: length * dice.between(3_000, 7_000) / 100_000,
         arm: draught / 2 + dice.between(1_500, 4_000),
@@ -157,10 +214,21 @@ pub fn judged_at(dice: &mut Dice, draught: i128, fullness: i128) -> Vessel {
     let mut rows = Vec::new();
     let mut displacement = mass;
     for _ in 0..dice.between(2, 3) {
-        rows.push(Row { displacement, draught, km, kn: kn.clone() });
+        rows.push(Row {
+            displacement,
+            draught,
+            km,
+            kn: kn.clone(),
+        });
         displacement += dice.between(1, mass / 5);
     }
-    let mut vessel = Vessel { ship, rows, weather, mass, kg };
+    let mut vessel = Vessel {
+        ship,
+        rows,
+        weather,
+        mass,
+        kg,
+    };
     vessel.vary_rows(dice);
     vessel.mass = vessel.rows[dice.index(vessel.rows.len())].displacement;
     vessel

@@ -1,0 +1,309 @@
+//! Criteria 7 and 8 by their winds: the steady heel at its limits, levers met
+//! exactly, angles that are none, every kind of flooding angle, and a net
+//! area of 0 with its neighbours.
+
+use super::dice::Dice;
+use super::edges::crest;
+use super::solve::{area, figures, fit, lever, sine_curve, sine_sum};
+use super::vessel::{self, Vessel};
+use super::Cases;
+use crate::criteria::{Gust, Wind};
+use crate::curve::{Curve, SINES, Y_PER_MILLIMETRE};
+use crate::line::up;
+use crate::loading::laden;
+use crate::parse::document;
+use crate::roll;
+use crate::text::lines;
+
+const TRIES: usize = 60;
+
+pub fn add(cases: &mut Cases) {
+    for (heel, deck_edge) in HEELS {
+        cases.add(format!("phi0 {heel} deck edge {deck_edge}"), move |dice| {
+            let mut vessel = heeled(dice, heel);
+            vessel.weather.deck_edge = deck_edge;
+            vessel.text(dice)
+        });
+    }
+    for flooding in FLOODINGS {
+        cases.add(format!("flooding at {flooding}"), move |dice| {
+            let mut vessel = vessel::judged(dice);
+            vessel.weather.flooding = flooding;
+            vessel.text(dice)
+        });
+    }
+    for beside in [-1, 0, 1] {
+        cases.add(format!("lever exact {beside:+}"), move |dice| {
+            let (mut vessel, lever) = exact(dice);
+            blow(&mut vessel, lever + beside);
+            vessel.text(dice)
+        });
+        cases.add(format!("net {beside:+}"), move |dice| {
+            net(dice, beside).text(dice)
+        });
+    }
+    add_none(cases);
+    add_ends(cases);
+    add_dips(cases);
+}
+
+const HEELS: [(i128, i128); 15] = [
+    (1, 1),
+    (1, 2),
+    (80, 99),
+    (80, 100),
+    (120, 149),
+    (120, 150),
+    (159, 199),
+    (160, 199),
+    (160, 200),
+    (160, 201),
+    (161, 202),
+    (161, 600),
+    (499, 600),
+    (500, 600),
+    (501, 600),
+];
+
+const FLOODINGS: [i128; 20] = [
+    0, 1, 2, 49, 50, 51, 249, 250, 251, 299, 300, 301, 399, 400, 401, 499, 500, 501, 599, 600,
+];
+
+/// The curve and the winds on a laden ship.
+pub struct Sailing {
+    pub curve: Curve,
+    pub wind: Wind,
+    pub gust: Option<Gust>,
+}
+
+/// A vessel under its wind, with its whole mass at KG.
+fn sail(vessel: &Vessel) -> Option<Sailing> {
+    let entries = vec![super::draft::item(vessel.mass, vessel.kg)];
+    sail_text(&vessel.draft(entries).text())
+}
+
+pub fn sail_text(text: &[u8]) -> Option<Sailing> {
+    let document = document(&lines(text).ok()?).ok()?;
+    let laden = laden(&document).ok()?;
+    let curve = Curve::of(&laden);
+    let wind = Wind::on(&document, &laden, &curve);
+    let weather = &document.condition.weather;
+    let gust = roll::angle(&document.ship, weather.block_coefficient, &laden)
+        .and_then(|phi1| wind.gust(&curve, phi1, weather.flooding));
+    Some(Sailing { curve, wind, gust })
+}
+
+/// Gives the vessel a wind with this steady lever; false if none has it.
+pub fn blow(vessel: &mut Vessel, lever: i128) -> bool {
+    let scale = 981 * vessel.mass;
+    for arm in (1_000..=60_000).step_by(500) {
+        let wind_area = lever * scale / (5_040 * arm);
+        if wind_area <= 300_000 && up(5_040 * wind_area * arm, scale) == lever {
+            vessel.weather.wind_area = wind_area;
+            vessel.weather.arm = arm;
+            return true;
+        }
+    }
+    false
+}
+
+/// A vessel with a steady heel of exactly this angle.
+fn heeled(dice: &mut Dice, heel: i128) -> Vessel {
+    let mut vessel = vessel::judged(dice);
+    for _ in 0..TRIES {
+        vessel.weather.flooding = 600;
+        steepen(&mut vessel, usize::try_from((heel + 49) / 50).unwrap_or(12));
+        if let Some(sailing) = sail(&vessel) {
+            let lever = sailing.curve.y(heel) / Y_PER_MILLIMETRE;
+            let blows = blow(&mut vessel, lever);
+            if blows && figures(&vessel).is_some_and(|judged| judged.figures[8] == heel) {
+                return vessel;
+            }
+        }
+        vessel = vessel::judged(dice);
+    }
+    vessel
+}
+
+/// A lever at the station that is at least 80 mm above all before it.
+fn steepen(vessel: &mut Vessel, station: usize) {
+    let kg = vessel.kg;
+    let kn = &mut vessel.laden().kn;
+    let before = (0..station)
+        .map(|at| 100_000 * kn[at] - kg * SINES[at])
+        .max()
+        .unwrap_or(0);
+    let least = (before + 8_000_000 + kg * SINES[station]) / 100_000;
+    kn[station] = kn[station].max(least);
+}
+
+/// A vessel whose lever at some angle is a whole number of millimetres.
+fn exact(dice: &mut Dice) -> (Vessel, i128) {
+    let mut vessel = vessel::judged(dice);
+    for _ in 0..TRIES {
+        let turn = dice.between(0, 140);
+        for t in (0..=140).map(|step| 20 + (turn + step) % 141) {
+            if let Some(found) = exact_at(&vessel, t) {
+                return found;
+            }
+        }
+        vessel = vessel::judged(dice);
+    }
+    (vessel, 10)
+}
+
+fn exact_at(base: &Vessel, t: i128) -> Option<(Vessel, i128)> {
+    let weights = lever(t);
+    let sines = sine_sum(&weights);
+    for kg in (base.kg - 300..=base.kg + 300).filter(|kg| kg * sines % 100_000 == 0) {
+        let mut vessel = base.clone();
+        vessel.kg = kg;
+        let millimetres = sail(&vessel)?.curve.y(t) / Y_PER_MILLIMETRE;
+        let fits = fit(
+            &mut vessel.laden().kn,
+            &weights,
+            kg,
+            millimetres * Y_PER_MILLIMETRE,
+            1,
+        );
+        if fits && blow(&mut vessel, millimetres) && sail(&vessel)?.wind.phi0 == Some(t) {
+            return Some((vessel, millimetres));
+        }
+    }
+    None
+}
+
+/// A wind just too strong for phi0, one just too strong for u, and no wind.
+fn add_none(cases: &mut Cases) {
+    for (name, beyond) in [("phi0 none", 1), ("u none", 0), ("phi0 none by far", 300)] {
+        cases.add(name, move |dice| {
+            let mut vessel = vessel::judged(dice);
+            if let Some(sailing) = sail(&vessel) {
+                let highest = sailing.curve.greatest(0..=vessel.weather.flooding);
+                let lever = highest.map_or(0, |(_, y)| y / Y_PER_MILLIMETRE);
+                blow(&mut vessel, lever + beyond);
+            }
+            vessel.text(dice)
+        });
+    }
+    cases.add("no wind area", |dice| {
+        let mut vessel = vessel::judged(dice);
+        vessel.weather.wind_area = 0;
+        vessel.text(dice)
+    });
+    cases.add("no wind arm", |dice| {
+        let mut vessel = vessel::judged(dice);
+        vessel.weather.arm = 0;
+        vessel.text(dice)
+    });
+}
+
+/// The flooding angle at phi0 and at u, and one before each.
+fn add_ends(cases: &mut Cases) {
+    for (name, of_gust, before) in [
+        ("flooding at phi0", false, 0),
+        ("flooding before phi0", false, 1),
+        ("flooding at u", true, 0),
+        ("flooding before u", true, 1),
+    ] {
+        cases.add(name, move |dice| {
+            let mut vessel = vessel::judged(dice);
+            if let Some(Sailing { curve, wind, .. }) = sail(&vessel) {
+                let lever = if of_gust {
+                    wind.gust_lever
+                } else {
+                    wind.steady_lever
+                };
+                let met = curve.first_at_least(lever * Y_PER_MILLIMETRE, 0..=600);
+                vessel.weather.flooding = (met.unwrap_or(0) - before).max(0);
+            }
+            vessel.text(dice)
+        });
+    }
+}
+
+/// Curves that fall under the gust lever and rise again, or stay under it.
+fn add_dips(cases: &mut Cases) {
+    for (dip, again) in [
+        (4, true),
+        (6, true),
+        (7, false),
+        (9, true),
+        (10, false),
+        (11, true),
+    ] {
+        cases.add(
+            format!("dip at station {dip}, again {again}"),
+            move |dice| {
+                let mut vessel = vessel::judged(dice);
+                vessel.weather.flooding = dice.pick(&[500, 550, 600]);
+                crest(&mut vessel, dip - 1);
+                let kg = vessel.kg;
+                let last = if again { dip } else { 12 };
+                let kn = &mut vessel.laden().kn[dip..=last];
+                for (kn, sine) in kn.iter_mut().zip(&SINES[dip..]) {
+                    *kn = (kg * sine / 100_000 + dice.between(-30, 30)).clamp(0, 30_000);
+                }
+                vessel.text(dice)
+            },
+        );
+    }
+}
+
+/// The strongest wind whose net area is not below 0.
+fn balanced(vessel: &mut Vessel) -> bool {
+    let mut best = None;
+    for lever in 5..250 {
+        let blows = blow(vessel, lever);
+        let gust = sail(vessel).and_then(|sailing| sailing.gust);
+        if blows && gust.is_some_and(|gust| gust.net >= 0) {
+            best = Some(lever);
+        } else if best.is_some() {
+            break;
+        }
+    }
+    best.is_some_and(|lever| blow(vessel, lever))
+}
+
+/// A vessel with this net area, or the nearest that was met.
+fn net(dice: &mut Dice, wanted: i128) -> Vessel {
+    let sines = sine_curve();
+    let mut vessel = vessel::judged(dice);
+    for _ in 0..TRIES {
+        vessel.weather.flooding = 500;
+        if balanced(&mut vessel) {
+            for kg in vessel.kg - 250..=vessel.kg + 250 {
+                if let Some(found) = net_at(&vessel, kg, wanted, &sines) {
+                    return found;
+                }
+            }
+        }
+        vessel = vessel::judged(dice);
+    }
+    balanced(&mut vessel);
+    vessel
+}
+
+fn net_at(base: &Vessel, kg: i128, wanted: i128, sines: &Curve) -> Option<Vessel> {
+    let mut vessel = base.clone();
+    vessel.kg = kg;
+    let sailing = sail(&vessel)?;
+    let start = sailing.gust?.start;
+    let gust_y = sailing.wind.gust_lever * Y_PER_MILLIMETRE;
+    let whole = |end: i128| wanted + 2 * gust_y * (end - start);
+    let reachable = |&end: &i128| (whole(end) + kg * sines.area(start, end)) % 100_000 == 0;
+    for end in (350..=500).filter(reachable) {
+        let mut tried = vessel.clone();
+        tried.weather.flooding = end;
+        let fits = fit(&mut tried.laden().kn, &area(start, end), kg, whole(end), 5);
+        let gust = if fits {
+            sail(&tried).and_then(|sailing| sailing.gust)
+        } else {
+            None
+        };
+        if gust.is_some_and(|gust| gust.net == wanted) {
+            return Some(tried);
+        }
+    }
+    None
+}
