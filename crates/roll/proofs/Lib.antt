@@ -1,0 +1,8 @@
+pub mod Limits
+pub mod Constants
+pub mod Bilge
+pub mod Factors
+pub mod Judged
+pub mod Heights
+pub mod LeastSquare
+pub mod Angles

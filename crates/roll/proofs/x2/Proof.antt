@@ -1,0 +1,21 @@
+-- `roll::x2` meets its contract: the constants are the points of the rules. Assumes nothing.
+use mathlib.Core.Path.{refl}
+use Rattle.rules.specs.Roll.{X2}
+use Rattle.rounding.specs.Points.{pointsOf}
+use Rattle.roll.proofs.Constants.{constant}
+use borrow.Author.Needs.{needs}
+use Rattle.roll.proofs.x2.Statement.{statement}
+use Rattle.roll.proofs.x2.Tie as tie
+
+slice-aggregate-table-up : tie.Need-slice-aggregate-table-up
+slice-aggregate-table-up c = search needs
+
+table-up-requires : tie.Need-table-up-requires
+table-up-requires c κs = constant X2 refl
+
+returns : tie.Need-returns
+unfolding pointsOf
+returns c = c .table-up .ensures
+
+pub x2-spec : {M : Type 1} → statement M
+x2-spec = tie.close (tie.spec slice-aggregate-table-up table-up-requires returns)
