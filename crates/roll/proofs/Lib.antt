@@ -1,5 +1,4 @@
 pub mod Limits
-pub mod Constants
 pub mod Bilge
 pub mod Factors
 pub mod Judged

@@ -2,78 +2,13 @@
 ghost use mathlib.Core.Path.{_≡_};
 ghost use mathlib.Core.Bool.{false};
 ghost use Prim.Native.Nat.{_<_};
-ghost use Rattle.rules.specs.Rounding.{table, up};
-ghost use Rattle.rules.specs.Roll.{b as bOf, C as cOf, period as periodOf, k as kOf, X1 as x1Points, X2 as x2Points, S as sPoints, p as pOf, r as rOf, phi1 as phi1Of, notJudged};
+ghost use Rattle.rules.specs.Roll.{b as bOf, C as cOf, period as periodOf, k as kOf, p as pOf, r as rOf, phi1 as phi1Of, notJudged};
 ghost use Rattle.rules.specs.Ranges.{Fair};
 ghost use Rattle.book.specs.Book.{loadedOf};
 ghost use Rattle.roll.specs.Rolls.{windLevers, outside as outsideOf, rollOf};
 use book::Loaded;
 
-// Tables of points: place, value, place, value, ..
-const X1: [u64; 22] = [
-    2400,
-    1000,
-    2500,
-    980,
-    2600,
-    960,
-    2700,
-    950,
-    2800,
-    930,
-    2900,
-    910,
-    3000,
-    900,
-    3100,
-    880,
-    3200,
-    860,
-    3400,
-    820,
-    3500,
-    800,
-];
-
-const X2: [u64; 12] = [450, 750, 500, 820, 550, 890, 600, 950, 650, 970, 700, 1000];
-
-const K: [u64; 16] = [
-    0,
-    1000,
-    1000,
-    980,
-    1500,
-    950,
-    2000,
-    880,
-    2500,
-    790,
-    3000,
-    740,
-    3500,
-    720,
-    4000,
-    700,
-];
-
-const S: [u64; 16] = [
-    600,
-    1000,
-    700,
-    980,
-    800,
-    930,
-    1200,
-    650,
-    1400,
-    530,
-    1600,
-    440,
-    1800,
-    380,
-    2000,
-    350,
-];
+mod tables;
 
 // The steady wind's lever and the gust's, in mm.
 pub struct WindLevers {
@@ -132,28 +67,7 @@ fn keel(c: Loaded) -> u64
         return 700;
     }
     let index = 1_000_000_000 * c.ship.keel / (c.ship.length * c.ship.breadth);
-    rounding::table_up(&K, index)
-}
-
-// X1 from b, in thousandths.
-fn x1(b: u64) -> u64
-    ensures { λ r. ⌜ r ≡ table up x1Points b ⌝ }
-{
-    rounding::table_up(&X1, b)
-}
-
-// X2 from the block coefficient, in thousandths.
-fn x2(cb: u64) -> u64
-    ensures { λ r. ⌜ r ≡ table up x2Points cb ⌝ }
-{
-    rounding::table_up(&X2, cb)
-}
-
-// s from the period, in ten-thousandths.
-fn s(n: u64) -> u64
-    ensures { λ r. ⌜ r ≡ table up sPoints n ⌝ }
-{
-    rounding::table_up(&S, n)
+    tables::k(index)
 }
 
 // p = k X1 / 1000, up; then times X2 / 1000, up.
@@ -161,8 +75,8 @@ fn factor(c: Loaded, b: u64) -> u64
     requires { ⌜ Fair (loadedOf c) × (b ≡ bOf (loadedOf c)) ⌝ }
     ensures { λ r. ⌜ r ≡ pOf (loadedOf c) ⌝ }
 {
-    let kx = rounding::ceil(keel(c) * x1(b), 1000);
-    rounding::ceil(kx * x2(c.weather.cb), 1000)
+    let kx = rounding::ceil(keel(c) * tables::x1(b), 1000);
+    rounding::ceil(kx * tables::x2(c.weather.cb), 1000)
 }
 
 // r = 730 + 600 (KG - d)/d, the quotient rounded up, also below zero.
@@ -182,7 +96,7 @@ fn angle(c: Loaded, b: u64, n: u64) -> u64
 {
     let p = factor(c, b);
     let r = height(c) as u64;
-    let product = 1090 * 1090 * p * p * r * s(n);
+    let product = 1090 * 1090 * p * p * r * tables::s(n);
     rounding::greatest_square(10_000_000_000_000, product - 1, 599) + 1
 }
 

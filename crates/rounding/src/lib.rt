@@ -1,12 +1,12 @@
 // Division with its exact rounding, the straight line between points, tables of points, and the greatest number whose square fits.
 ghost use mathlib.Core.Path.{_≡_};
+ghost use mathlib.Core.Bool.{true};
 ghost use Prim.Native.Nat.{_+_, _-_, _*_, _/_, _^_, max, _≤_, _<_};
 ghost use lib.Dec.{leb};
 ghost use lib.IntN.{pos, natAbs};
-ghost use lib.ListN.{length};
 ghost use lib.Signed.{_<ℤ_};
 ghost use Rattle.rules.specs.Rounding.{ceil, ceilZ, point, down, up, span, line, table, greatest};
-ghost use Rattle.rounding.specs.Points.{Between, pointsOf, Small};
+ghost use Rattle.rounding.specs.Points.{Between, pointsOf, tabled};
 
 // n / d, rounded up.
 pub fn ceil(n: u64, d: u64) -> u64
@@ -57,7 +57,7 @@ fn max(a: u64, b: u64) -> u64
 
 // Any table of constant points: linear between points, flat beyond, rounded up.
 pub fn table_up(points: &[u64], x: u64) -> u64
-    requires { ⌜ (2 ≤ length (now points)) × Small (now points) ⌝ }
+    requires { ⌜ tabled (now points) ≡ true ⌝ }
     ensures { λ r. ⌜ r ≡ table up (pointsOf (now (points .entry))) x ⌝ }
 {
     let at = max(x, points[0]);

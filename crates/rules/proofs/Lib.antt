@@ -34,3 +34,4 @@ pub mod Verdicts
 pub mod Cases
 pub mod Bench
 pub mod Slips
+pub mod Within

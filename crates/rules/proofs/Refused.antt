@@ -19,22 +19,22 @@ use Rattle.rules.proofs.Whole.{read-steps, read-iff-allowed}
 pub record Refusal {A : Type 0} (P : ℕ → ℕ → ℕ → Type 0) (m : Ans A) : Type 0 where
   pub holds : (n l o : ℕ) → m ≡ refused n l o → P n l o
 
-given : {A : Type 0} {P : ℕ → ℕ → ℕ → Type 0} {a : A} → Refusal P (got a)
+pub given : {A : Type 0} {P : ℕ → ℕ → ℕ → Type 0} {a : A} → Refusal P (got a)
 given = record { holds = λ n l o e. refused-got (sym e) }
 
 -- A refusal with this number, line and offset.
-plain : {A : Type 0} {P : ℕ → ℕ → ℕ → Type 0} (n l o : ℕ) → P n l o → Refusal {A = A} P (refused n l o)
+pub plain : {A : Type 0} {P : ℕ → ℕ → ℕ → Type 0} (n l o : ℕ) → P n l o → Refusal {A = A} P (refused n l o)
 plain {P = P} n l o h = record { holds = λ n′ l′ o′ e. let a : n ≡ n′ = cc in let b : l ≡ l′ = cc in let c : o ≡ o′ = cc in rw (← a, ← b, ← c) h }
 
-weaker : {A : Type 0} {P Q : ℕ → ℕ → ℕ → Type 0} {m : Ans A} → ((n l o : ℕ) → P n l o → Q n l o) → Refusal P m → Refusal Q m
+pub weaker : {A : Type 0} {P Q : ℕ → ℕ → ℕ → Type 0} {m : Ans A} → ((n l o : ℕ) → P n l o → Q n l o) → Refusal P m → Refusal Q m
 weaker f h = record { holds = λ n l o e. f n l o (h .holds n l o e) }
 
-bind-refusal : {A B : Type 0} {P : ℕ → ℕ → ℕ → Type 0} (m : Ans A) (k : A → Ans B) → Refusal P m → ((a : A) → m ≡ got a → Refusal P (k a)) → Refusal P (m >>= k)
+pub bind-refusal : {A B : Type 0} {P : ℕ → ℕ → ℕ → Type 0} (m : Ans A) (k : A → Ans B) → Refusal P m → ((a : A) → m ≡ got a → Refusal P (k a)) → Refusal P (m >>= k)
 unfolding _>>=_
 bind-refusal (refused n l o) k f g = plain n l o (f .holds n l o refl)
 bind-refusal (got a) k f g = g a refl
 
-test-refusal : {B : Type 0} {P : ℕ → ℕ → ℕ → Type 0} (c : Bool) (n l o : ℕ) (k : Ans B) → P n l o → Refusal P k → Refusal P (test c n l o >> k)
+pub test-refusal : {B : Type 0} {P : ℕ → ℕ → ℕ → Type 0} (c : Bool) (n l o : ℕ) (k : Ans B) → P n l o → Refusal P k → Refusal P (test c n l o >> k)
 unfolding _>>_ test
 test-refusal true n l o k a f = f
 test-refusal false n l o k a f = plain n l o a
@@ -54,16 +54,16 @@ NotBefore ln n l o = Numbered n l o × (ln ≤ l)
 
 -- ---- lines
 module _ (ln : ℕ) where
-  nibble-refusal : (c : ℕ) → Refusal (NotBefore ln) (nibble ln c)
+  nibble-refusal : (c : ℕ) → Refusal (At ln 0) (nibble ln c)
   unfolding nibble
   nibble-refusal c = go (leb 48 c && leb c 57) (leb 65 c && leb c 70)
     where
-      go : (a b : Bool) → Refusal (NotBefore ln) (cond a (got (c - 48)) (cond b (got (c - 55)) (refused 1 ln 0)))
+      go : (a b : Bool) → Refusal (At ln 0) (cond a (got (c - 48)) (cond b (got (c - 55)) (refused 1 ln 0)))
       go true b = given
       go false true = given
       go false false = plain 1 ln 0 (omega arith)
 
-  unhex-refusal : (s : List ℕ) → Refusal (NotBefore ln) (unhex ln s)
+  pub unhex-refusal : (s : List ℕ) → Refusal (At ln 0) (unhex ln s)
   unfolding unhex
   unhex-refusal [] = given
   unhex-refusal (c ∷ []) = plain 1 ln 0 (omega arith)
@@ -74,7 +74,7 @@ unfolding decode
 decode-refusal [] ln [] = given
 decode-refusal [] ln (c ∷ p) = plain 1 ln 0 (omega arith)
 decode-refusal (q ∷ ps) ln p =
-    bind-refusal _ _ (unhex-refusal ln p) (λ b eb. test-refusal _ _ _ _ _ (omega arith) (bind-refusal _ _ (weaker (λ n l o h. omega arith) (decode-refusal ps (ln + 1) q)) (λ r er. given)))
+    bind-refusal _ _ (weaker (λ n l o h. omega arith) (unhex-refusal ln p)) (λ b eb. test-refusal _ _ _ _ _ (omega arith) (bind-refusal _ _ (weaker (λ n l o h. omega arith) (decode-refusal ps (ln + 1) q)) (λ r er. given)))
 
 lines-refusal : (ln : ℕ) (t : List ℕ) → Refusal (NotBefore ln) (linesFrom ln t)
 unfolding linesFrom

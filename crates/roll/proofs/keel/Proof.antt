@@ -1,11 +1,9 @@
 -- `roll::keel` meets its contract: a sharp bilge has its k at once, a round one from the table. Assumes nothing.
 use native.Mathlib.Omega.{arith}
-use mathlib.Core.Path.{refl, _∙_}
-use Rattle.rules.specs.Roll.{K, keelIndex}
-use Rattle.rounding.specs.Points.{pointsOf}
+use mathlib.Core.Path.{_∙_}
+use Rattle.rules.specs.Roll.{keelIndex}
 use Rattle.roll.proofs.Limits.{sized, plan-from, plan-to}
 use Rattle.roll.proofs.Bilge.{sharp, round}
-use Rattle.roll.proofs.Constants.{constant}
 use borrow.Author.Needs.{needs}
 use Rattle.roll.proofs.keel.Statement.{statement}
 use Rattle.roll.proofs.keel.Tie as tie
@@ -22,24 +20,12 @@ mul-index-2 c = omega (arith, plan-to _ (c .before .before .before .before .pre)
 div-index : tie.Need-div-index
 div-index c = omega (arith, plan-from _ (c .before .before .before .before .pre))
 
-slice-aggregate-table-up : tie.Need-slice-aggregate-table-up
-slice-aggregate-table-up c = search needs
-
-table-up-requires : tie.Need-table-up-requires
-table-up-requires c κs = constant K refl
+k-requires : tie.Need-k-requires
+k-requires c κs = search needs
 
 returns-2 : tie.Need-returns-2
-unfolding keelIndex pointsOf
-returns-2 c = c .table-up .ensures ∙ round _ (c .before .before .before .before .if1 .left)
+unfolding keelIndex
+returns-2 c = c .k .ensures ∙ round _ (c .before .before .before .if1 .left)
 
 pub keel-spec : {M : Type 1} → statement M
-keel-spec =
-    tie.close
-    (tie.spec
-    returns
-    mul-index
-    mul-index-2
-    div-index
-    slice-aggregate-table-up
-    table-up-requires
-    returns-2)
+keel-spec = tie.close (tie.spec returns mul-index mul-index-2 div-index k-requires returns-2)

@@ -5,7 +5,7 @@ use Prim.Native.Nat.{_+_, _-_, _≤_}
 use lib.ListN.{length, getD}
 use Rattle.rules.specs.Rounding.{up, table}
 use Rattle.rounding.specs.Points.{pointsOf}
-use Rattle.rounding.proofs.TablePoints.{from, from-first, from-last, from-between, from-past}
+use Rattle.rounding.proofs.TablePoints.{asked, from, from-first, from-last, from-between, from-past}
 use borrow.Author.Needs.{needs}
 use Rattle.rounding.proofs.table_up.Statement.{statement}
 use Rattle.rounding.proofs.table_up.Tie as tie
@@ -17,15 +17,17 @@ abbrev μ-loop : tie.MeasureT-loop
 μ-loop points x at i₀ i = length points - i
 
 shared-slice-read-max : tie.Need-shared-slice-read-max Inv-loop μ-loop
-shared-slice-read-max c = search needs
+shared-slice-read-max c = let s = c .before .before in omega (arith, asked (s .args .points .now) (s .pre) .0)
 
 max-requires : tie.Need-max-requires Inv-loop μ-loop
 max-requires c κs = search needs
 
 loop-holds : tie.Need-loop-holds Inv-loop μ-loop
 loop-holds c =
-    let a = c .before .before .before .args in
-    (omega arith, omega arith, rw (c .max .ensures) (from-first up (a .points .now) (a .x) (omega arith)))
+    let s = c .before .before .before in
+    let a = s .args in
+    let two = asked (a .points .now) (s .pre) .0 in
+    (two, omega arith, rw (c .max .ensures) (from-first up (a .points .now) (a .x) two))
 
 sub-loop : tie.Need-sub-loop Inv-loop μ-loop
 sub-loop c = search needs
@@ -77,7 +79,7 @@ line-up-requires c κs =
     let t = c .before .before .before .before in
     let l = t .before .before .before in
     let s = l .before .before .before .before in
-    let small = s .pre .1 in
+    let small = asked (s .args .points .now) (s .pre) .1 in
     let i = l .loop .i in
     record { rise = omega (arith, t .if1, l .loop); from = l .loop .inv .1; to = omega (arith, t .if1); far = omega (arith, small (i + 2)); first = small (i + 1); second = small (i + 3) }
 
