@@ -1,7 +1,7 @@
 -- The searches of document 01, one step at a time, as a loop takes them.
-use mathlib.Core.Path.{_≡_, refl, sym, _∙_, ap}
+use mathlib.Core.Path.{_≡_, sym, _∙_, ap}
 use mathlib.Core.Bool.{Bool, true, false}
-use Prim.Native.Nat.{ℕ, zero, suc, _+_, _-_, _≤_, _<_}
+use Prim.Native.Nat.{ℕ, suc, _+_, _-_, _≤_, _<_}
 use native.Mathlib.Omega.{arith}
 use lib.IntN.{ℤ, pos}
 use lib.Signed.{leZ, ltZ}
@@ -10,31 +10,29 @@ use Rattle.rules.specs.Criteria.{reaches}
 use Rattle.rules.specs.Roll.{stays}
 
 -- ---- 'the first t with the greatest y'
+choice : ℕ → ℕ → Bool → ℕ
+choice s m b = elim b [ true ↦ s | false ↦ m ]
+
 module _ (f : ℕ → ℤ) (a : ℕ) where
   pub peak-starts : a ≡ peak f a (a - a)
   unfolding peak
   peak-starts = let e : a - a ≡ 0 = omega arith in rw e
 
-  module _ (t m : ℕ) (from : a ≤ t) (so-far : m ≡ peak f a (t - a)) where
-    choice : Bool → ℕ
-    choice b = elim b [ true ↦ t + 1 | false ↦ m ]
+  one-more : (n s m : ℕ) → s ≡ a + suc n → m ≡ peak f a n → peak f a (suc n) ≡ choice s m (ltZ (f m) (f s))
+  unfolding peak choice
+  one-more n s m p q = rw (p, q)
 
-    step : peak f a (t + 1 - a) ≡ choice (ltZ (f m) (f (t + 1)))
-    unfolding peak choice
-    step =
-        let n : t + 1 - a ≡ suc (t - a) = omega arith in
-        let p : a + suc (t - a) ≡ t + 1 = omega arith in
-        ap (peak f a) n
-        ∙ ap (λ (s : ℕ). elim (ltZ (f (peak f a (t - a))) (f s)) [ true ↦ s | false ↦ peak f a (t - a) ]) p
-        ∙ ap (λ (k : ℕ). elim (ltZ (f k) (f (t + 1))) [ true ↦ t + 1 | false ↦ k ]) (sym so-far)
+  module _ (t m : ℕ) (from : a ≤ t) (so-far : m ≡ peak f a (t - a)) where
+    next-peak : peak f a (t + 1 - a) ≡ choice (t + 1) m (ltZ (f m) (f (t + 1)))
+    next-peak = let n : t + 1 - a ≡ suc (t - a) = omega arith in rw n (one-more (t - a) (t + 1) m (omega arith) so-far)
 
     pub peak-moves : ltZ (f m) (f (t + 1)) ≡ true → t + 1 ≡ peak f a (t + 1 - a)
     unfolding choice
-    peak-moves e = sym (step ∙ ap choice e)
+    peak-moves e = sym (next-peak ∙ ap (choice (t + 1) m) e)
 
     pub peak-keeps : ltZ (f m) (f (t + 1)) ≡ false → m ≡ peak f a (t + 1 - a)
     unfolding choice
-    peak-keeps e = sym (step ∙ ap choice e)
+    peak-keeps e = sym (next-peak ∙ ap (choice (t + 1) m) e)
 
 -- ---- 'the first t from t₀ to e with'
 module _ (p : ℕ → Bool) (t e : ℕ) where

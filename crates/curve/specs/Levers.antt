@@ -4,7 +4,7 @@ use mathlib.Core.List.{List, map}
 use Prim.Native.Nat.{ℕ, suc, _+_, _-_, _*_, _/_, _%_, _^_, _≤_, _<_}
 use lib.ListN.{length, getD}
 use lib.IntN.{ℤ, pos, negsuc, negℤ, subℕ, natAbs, _+ℤ_, _*ℤ_}
-use Rattle.rules.specs.Curve.{stations, sines, lever, area}
+use Rattle.rules.specs.Curve.{stations, sines, area}
 
 -- Sizes that the machine's arithmetic rests on: KN and KG within two bytes.
 pub record Sized (kn : List ℕ) (kg : ℕ) : Type 0 where
@@ -16,11 +16,11 @@ abbrev pub Within : ℕ → List ℤ → Type 0
 Within n zs = (i : ℕ) → natAbs (getD zs i (pos 0)) ≤ n
 
 -- So far from zero no lever at a station is, and no y.
-abbrev pub most-g : ℕ
-most-g = 2 * 10 ^ 10
+abbrev pub mostG : ℕ
+mostG = 2 * 10 ^ 10
 
-abbrev pub most-y : ℕ
-most-y = 10 ^ 12
+abbrev pub mostY : ℕ
+mostY = 10 ^ 12
 
 -- 'g at a station = 100,000 x KN - KG x sine.'
 unfoldable pub g : List ℕ → ℕ → ℕ → ℤ
@@ -31,7 +31,7 @@ leversOf kn kg = map (g kn kg) stations
 
 -- '50 times the straight-line value of g.'
 unfoldable pub straight : List ℤ → ℕ → ℤ
-straight gs t = getD gs (t / 50) (pos 0) *ℤ pos (50 - t % 50) +ℤ getD gs (t / 50 + 1) (pos 0) *ℤ pos (t % 50)
+straight gs t = pos (50 - t % 50) *ℤ getD gs (t / 50) (pos 0) +ℤ pos (t % 50) *ℤ getD gs (t / 50 + 1) (pos 0)
 
 -- An array of 601 entries that are those of f.
 pub record Holds (f : ℕ → ℤ) (zs : List ℤ) : Type 0 where

@@ -1,6 +1,6 @@
 -- Loading: W and the corrected KG, or 7 or 8; and what makes a table and sums fit for it.
 use mathlib.Core.Path.{_≡_}
-use mathlib.Core.Bool.{Bool, true, false, cond}
+use mathlib.Core.Bool.{cond}
 use mathlib.Core.List.{List}
 use Prim.Native.Nat.{ℕ, _+_, _^_, _≤_}
 use lib.Dec.{leb}
@@ -24,21 +24,25 @@ pub record Whole (t : Table) : Type 0 where
   pub long : length (t .rows) ≡ mostRows
   pub rising : Rising 0 (rowsOf t)
 
--- With sums that the machine can add and divide.
+-- Sums that the machine can add and divide.
+pub record Light (s : Sums) : Type 0 where
+  pub mass : s .mass ≤ 10 ^ 12
+  pub moments : s .moment + s .free ≤ 10 ^ 16
+
 pub record Sound (s : Sums) (t : Table) : Type 0 where
   pub whole : Whole t
-  pub light : s .mass ≤ 10 ^ 12
-  pub low : s .moment + s .free ≤ 10 ^ 16
+  pub light : Light s
 
 -- 'For 7, 8 and 9 both are 0.'
 abbrev pub refusal : ℕ → Refusal
 refusal n = record { number = n; line = 0; offset = 0 }
 
+-- 'KG = (sum of mass x centre + free surface moments) / W, rounded up.'
+abbrev pub kgOf : Sums → ℕ
+kgOf s = ceil (s .moment + s .free) (s .mass)
+
 unfoldable pub weighedOf : List Row → Sums → Weighed
-weighedOf rows s =
-    cond (inTable rows (s .mass))
-    (cond (leb (ceil (s .moment + s .free) (s .mass)) greatestKG) (Fine (s .mass) (ceil (s .moment + s .free) (s .mass))) (Refused (refusal 8)))
-    (Refused (refusal 7))
+weighedOf rows s = cond (inTable rows (s .mass)) (cond (leb (kgOf s) greatestKG) (Fine (s .mass) (kgOf s)) (Refused (refusal 8))) (Refused (refusal 7))
 
 -- What an answer says of a reading.
 abbrev pub Weighs : Reading → Weighed → Type 0

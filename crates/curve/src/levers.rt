@@ -1,10 +1,10 @@
 // The levers at the stations, y at each tenth of a degree, and the areas under it, each worked out once.
 ghost use mathlib.Core.Path.{_≡_};
-ghost use Prim.Native.Nat.{ℕ, _-_, _*_, _≤_, _<_, _^_};
+ghost use Prim.Native.Nat.{_-_, _*_, _≤_, _<_, _^_};
 ghost use lib.ListN.{getD};
 ghost use lib.IntN.{pos, subℕ, natAbs, _+ℤ_, _*ℤ_};
 ghost use Rattle.rules.specs.Curve.{sines, lever as leverOf};
-ghost use Rattle.curve.specs.Levers.{Sized, Within, «most-g», «most-y», leversOf, straight, Holds, held, upTo};
+ghost use Rattle.curve.specs.Levers.{Sized, Within, mostG, mostY, leversOf, straight, Holds, held, upTo};
 
 // In 1/100,000.
 const SINES: [u64; 13] = [
@@ -48,25 +48,25 @@ pub fn levers(kn: [u64; 13], kg: u64) -> [i64; 13]
 }
 
 // 50 times the straight-line value between two stations, m tenths past the first.
-fn between(a: i64, b: i64, m: u64) -> i64
-    requires { ⌜ (natAbs a ≤ «most-g») × (natAbs b ≤ «most-g») × (m ≤ 50) ⌝ }
-    ensures { λ r. ⌜ r ≡ a *ℤ pos (50 - m) +ℤ b *ℤ pos m ⌝ }
+fn fifty(a: i64, b: i64, m: u64) -> i64
+    requires { ⌜ (natAbs a ≤ mostG) × (natAbs b ≤ mostG) × (m ≤ 50) ⌝ }
+    ensures { λ r. ⌜ r ≡ pos (50 - m) *ℤ a +ℤ pos m *ℤ b ⌝ }
 {
     let left = (50 - m) as i64;
     let past = m as i64;
-    a * left + b * past
+    left * a + past * b
 }
 
 // y at each tenth: at the last one the last station's, before it between two stations.
 pub fn tenths(g: [i64; 13]) -> [i64; 601]
-    requires { ⌜ Within «most-g» g ⌝ }
+    requires { ⌜ Within mostG g ⌝ }
     ensures { λ r. ⌜ Holds (straight g) r ⌝ }
 {
-    let end = between(g[11], g[12], 50);
+    let end = fifty(g[11], g[12], 50);
     let mut y = [end; 601];
     let mut t = 0;
     while t < 600 {
-        y[t] = between(g[t / 50], g[t / 50 + 1], (t % 50) as u64);
+        y[t] = fifty(g[t / 50], g[t / 50 + 1], (t % 50) as u64);
         t = t + 1;
     }
     y
@@ -83,7 +83,7 @@ pub fn curve(kn: [u64; 13], kg: u64) -> [i64; 601]
 
 // The area from 0 to each tenth.
 pub fn areas(y: &[i64; 601]) -> [i64; 601]
-    requires { ⌜ Within «most-y» (now y) ⌝ }
+    requires { ⌜ Within mostY (now y) ⌝ }
     ensures { λ r. ⌜ Holds (upTo (held (now (y .entry)))) r ⌝ }
 {
     let mut area = [0i64; 601];

@@ -2,3 +2,4 @@
 pub mod levers;
 pub mod loading;
 pub mod searches;
+pub mod table;

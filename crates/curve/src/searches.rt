@@ -1,7 +1,7 @@
 // What is looked for along the curve, y at each tenth of a degree from 0 to 600: the greatest lever, the first tenth that reaches a level, the last that stays at it.
 ghost use mathlib.Core.Path.{_≡_};
 ghost use mathlib.Core.Bool.{true};
-ghost use Prim.Native.Nat.{ℕ, _-_, _≤_};
+ghost use Prim.Native.Nat.{_-_, _≤_};
 ghost use lib.IntN.{pos};
 ghost use lib.Signed.{leZ};
 ghost use Rattle.rules.specs.Rounding.{peak as peakOf};

@@ -12,7 +12,7 @@ use Rattle.rules.specs.Curve.{Loaded, loaded, leverZ, y}
 use Rattle.rules.specs.Criteria.{lw1, lw2}
 use Rattle.rules.specs.Roll.{period, s, phi1, start, e, rOf, X1}
 use Rattle.rules.specs.Answer.{answered, reportOf}
-use Rattle.rules.proofs.Cases.{Case, judges, refuses, gives, All, lines, broken, unjudged}
+use Rattle.rules.proofs.Cases.{Case, judges, refuses, gives, All, lines, broken, refusal}
 
 -- The input of P1, with any condition.
 abbrev pub ship : String
@@ -53,10 +53,10 @@ bench =
     ∷ gives (ofP1 (λ c. start c ∷ pos (e c) ∷ [])) (negℤ (pos 198) ∷ pos 500 ∷ [])
     ∷ gives (rOf 3_999 4_000 ∷ rOf 4_001 4_000 ∷ []) (pos 730 ∷ pos 731 ∷ [])
     ∷ gives (pos (table up X1 3_300) ∷ []) (pos 840 ∷ [])
-    ∷ refuses (with "A30018C1000C000009C40FA002BC01F400C8C2000700155CC00FA0") 2 4 18 (unjudged "D100650200040012")
-    ∷ refuses (with "A30018C1000C000009C40FA002BC01F400C8C2000500155CC00FA0") 3 4 18 (unjudged "D100650300040012")
-    ∷ refuses [] 5 0 0 (unjudged "D100650500000000")
-    ∷ refuses (with "A30018C1000C000009C40FA002BC01F400C8C2000600155CBF0FA0") 7 0 0 (unjudged "D100650700000000")
+    ∷ refuses (with "A30018C1000C000009C40FA002BC01F400C8C2000700155CC00FA0") 2 4 18 (refusal "D100650200040012")
+    ∷ refuses (with "A30018C1000C000009C40FA002BC01F400C8C2000500155CC00FA0") 3 4 18 (refusal "D100650300040012")
+    ∷ refuses [] 5 0 0 (refusal "D100650500000000")
+    ∷ refuses (with "A30018C1000C000009C40FA002BC01F400C8C2000600155CBF0FA0") 7 0 0 (refusal "D100650700000000")
     ∷ []
 
 pub bench-holds : All bench

@@ -39,6 +39,6 @@ All [] = Unit {0}
 All (c ∷ cs) = Holds c × All cs
 
 -- The report of a refusal: eight verdicts 3 and eleven figures 0, after the number, line and offset.
-abbrev pub unjudged : String → List ℕ
-unjudged start =
+abbrev pub refusal : String → List ℕ
+refusal start =
     broken (start ∷ "0303030303030303" ∷ "00000000000000000000000000000000000000000000000000000000000000000000000000000000000000000000000000000000000000000000000000000000000000000000000000000000000000000000000000000000" ∷ [])

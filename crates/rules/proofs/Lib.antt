@@ -25,6 +25,7 @@ pub mod Roll
 pub mod Divisions
 pub mod Ranges
 pub mod Drawing
+pub mod Fair
 pub mod Levers
 pub mod Areas
 pub mod Angles

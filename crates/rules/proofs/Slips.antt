@@ -3,7 +3,7 @@
 use mathlib.Core.Path.{refl}
 use mathlib.Core.List.{List, [], _∷_}
 use Rattle.rules.specs.Answer.{answered, reportOf}
-use Rattle.rules.proofs.Cases.{Case, judges, refuses, All, lines, broken, unjudged}
+use Rattle.rules.proofs.Cases.{Case, judges, refuses, All, lines, broken, refusal}
 use Rattle.rules.proofs.Bench.{ship, row1, with, P1-output}
 
 abbrev pub slips : List Case
@@ -18,7 +18,7 @@ slips =
     ∷ judges (lines (ship ∷ "A2002200155CC00FA01194000003E803E803E803E803E803E803E803E803E803E803E803E8" ∷ "A2002200186A0011301194000003E803E803E803E803E803E803E803E803E803E803E803E8" ∷ "A30018C1000C000009C40FA002BC01F400C8C2000600155CC00000" ∷ []))
     (broken ("D1006500000000000101010100010102" ∷ "0000000000155CC000000000000000000000000000001194" ∷ "0000028048C5EC00000000E8D4A51000000003691D6AFC00" ∷ "000000012A05F20000000000000000320000000000000002" ∷ "00000000000000000000000000000000" ∷ []))
     -- Testing a group's length against the line and not against its parent: the item runs past its group, which the line has room for.
-    ∷ refuses (with "A3001BC1000C000009C40FA002BC01F400C8C40008C2000600155CC00FA0") 2 4 21 (unjudged "D100650200040015")
+    ∷ refuses (with "A3001BC1000C000009C40FA002BC01F400C8C40008C2000600155CC00FA0") 2 4 21 (refusal "D100650200040015")
     -- Letting lw2 be 1.5 times an unrounded lw1: 36.3 is 37, and 55.5 is 56, as in P1; 54.4 would be 55.
     ∷ judges (with "A30018C1000C000009A60FA002BC01F400C8C2000600155CC00FA0") P1-output
     -- KN rounded up between rows: at W one above the first row's, it is the first row's still.

@@ -56,6 +56,15 @@ pub criterion7 : (c : Loaded) → passes7 c ≡ leb (phi0 c) (E c) && leb (phi0 
 unfolding passes7
 criterion7 c = refl
 
+-- 'phi0 160 passes with deck edge 200 and fails with 199.'
+pub heel-200 : (c : Loaded) → phi0 c ≡ 160 → 160 ≤ E c → c .weather .deckEdge ≡ 200 → passes7 c ≡ true
+unfolding passes7
+heel-200 c h e d = rw (h, le-leb 160 (E c) e, d)
+
+pub heel-199 : (c : Loaded) → phi0 c ≡ 160 → 160 ≤ E c → c .weather .deckEdge ≡ 199 → passes7 c ≡ false
+unfolding passes7
+heel-199 c h e d = rw (h, le-leb 160 (E c) e, d)
+
 -- 'Pass: net >= 0.'
 pub criterion8 : AtLeast 0 net passes8
 unfolding passes8

@@ -1,19 +1,18 @@
-use borrow.Author.Needs.{needs}
-use native.Mathlib.Omega.{arith}
+-- `curve::levers::areas` meets its contract: the areas up to the tenths passed are filled. Assumes nothing.
 use mathlib.Core.Path.{_≡_, refl, sym, _∙_}
-use Prim.Native.Nat.{ℕ, _+_, _-_, _*_, _^_, _≤_, _<_}
+use Prim.Native.Nat.{_+_, _-_, _^_, _≤_, _<_}
+use native.Mathlib.Omega.{arith}
 use lib.ListN.{length, getD, length-set}
 use lib.IntN.{ℤ, pos, _+ℤ_}
 use lib.Signed.{mag}
+use borrow.Author.Needs.{needs}
 use Rattle.curve.specs.Levers.{held, upTo}
 use Rattle.curve.proofs.Sizes.{abs-add, mag-abs, areas-within}
 use Rattle.curve.proofs.Machine.{pair-fits, running-fits, running-sum}
 use Rattle.curve.proofs.Areas.{upTo-none, upTo-more}
-use Rattle.curve.proofs.Filling.{Filled, filled-none, filled-more}
+use Rattle.curve.proofs.Filling.{Filled, filled-more}
 use Rattle.curve.proofs.levers.areas.Statement.{statement}
 use Rattle.curve.proofs.levers.areas.Tie as tie
-use Rattle.curve.proofs.levers.areas.Reads as reads
-use Rattle.curve.proofs.levers.areas.Lts as lts
 
 abbrev Inv-loop : tie.InvT-loop
 Inv-loop y area₀ t₀ area t = (t ≤ 600) × (length area ≡ 601) × Filled (pos 0) (upTo (held y)) (t + 1) area
@@ -52,67 +51,51 @@ all c =
     let y = l .before .args .y .now in
     rw (grown c) (omega (arith, mag-abs (upTo (held y) (l .loop .t + 1)), areas-within y (l .before .pre) (l .loop .t + 1)))
 
--- src/levers.rt:79:5
 loop-holds : tie.Need-loop-holds Inv-loop μ-loop
 loop-holds c = (omega arith, refl, record { at = λ k h. let e : k ≡ 0 = omega arith in rw e (sym (upTo-none (held (c .args .y .now)))) })
 
--- src/levers.rt:80:23
 mul-area : tie.Need-mul-area Inv-loop μ-loop
 mul-area c = search needs
 
--- src/levers.rt:80:23
 array-copy-out-area : tie.Need-array-copy-out-area Inv-loop μ-loop
 array-copy-out-area c = search needs
 
--- src/levers.rt:80:34
 mul-area-2 : tie.Need-mul-area-2 Inv-loop μ-loop
 mul-area-2 c = search needs
 
--- src/levers.rt:80:34
 element-copy-out-area : tie.Need-element-copy-out-area Inv-loop μ-loop
 element-copy-out-area c = search needs
 
--- src/levers.rt:80:43
 add-area : tie.Need-add-area Inv-loop μ-loop
 add-area c = search needs
 
--- src/levers.rt:80:41
 mul-area-3 : tie.Need-mul-area-3 Inv-loop μ-loop
 mul-area-3 c = search needs
 
--- src/levers.rt:80:41
 element-copy-out-area-2 : tie.Need-element-copy-out-area-2 Inv-loop μ-loop
 element-copy-out-area-2 c = search needs
 
--- src/levers.rt:80:34
 add-area-2 : tie.Need-add-area-2 Inv-loop μ-loop
 add-area-2 c = pair-fits (s c) (a c) (b c) (c .before .before .area .given) (c .before .area2 .given) (c .area3 .given) (pair c) (all c)
 
--- src/levers.rt:80:23
 add-area-3 : tie.Need-add-area-3 Inv-loop μ-loop
 add-area-3 c = running-fits (s c) (a c) (b c) (c .before .before .area .given) (c .before .area2 .given) (c .area3 .given) (pair c) (all c)
 
--- src/levers.rt:80:14
 add-area-4 : tie.Need-add-area-4 Inv-loop μ-loop
 add-area-4 c = search needs
 
--- src/levers.rt:80:9
 mul-area-4 : tie.Need-mul-area-4 Inv-loop μ-loop
 mul-area-4 c = search needs
 
--- src/levers.rt:80:9
 array-set-from-area : tie.Need-array-set-from-area Inv-loop μ-loop
 array-set-from-area c = search needs
 
--- src/levers.rt:81:13
 add-t : tie.Need-add-t Inv-loop μ-loop
 add-t c = search needs
 
--- src/levers.rt:79:5
 loop-less : tie.Need-loop-less Inv-loop μ-loop
 loop-less c = search needs
 
--- src/levers.rt:79:5
 loop-again : tie.Need-loop-again Inv-loop μ-loop
 loop-again c =
     let l = turn c in (
@@ -122,7 +105,6 @@ loop-again c =
           (running-sum (s c) (a c) (b c) (c .before .before .area .given) (c .before .area2 .given) (c .area3 .given) (pair c) (all c) ∙ grown c),
     )
 
--- src/levers.rt:73:1
 returns : tie.Need-returns Inv-loop μ-loop
 returns c = let l = c .before .loop in record { long = l .inv .1; at = λ t h. l .inv .2 .at t (omega arith) }
 

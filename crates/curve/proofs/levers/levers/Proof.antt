@@ -1,17 +1,15 @@
-use borrow.Author.Needs.{needs}
-use native.Mathlib.Omega.{arith}
+-- `curve::levers::levers` meets its contract: the stations passed are filled. Assumes nothing.
 use mathlib.Core.Path.{_≡_, refl, _∙_}
-use Prim.Native.Nat.{ℕ, _-_, _≤_}
+use Prim.Native.Nat.{_-_, _≤_}
+use native.Mathlib.Omega.{arith}
 use lib.ListN.{length, length-set}
-use lib.IntN.{ℤ, pos}
+use lib.IntN.{pos}
+use borrow.Author.Needs.{needs}
 use Rattle.curve.specs.Levers.{g as gOf}
 use Rattle.curve.proofs.Machine.{back}
 use Rattle.curve.proofs.Filling.{Filled, filled-none, filled-more, all-stations}
 use Rattle.curve.proofs.levers.levers.Statement.{statement}
 use Rattle.curve.proofs.levers.levers.Tie as tie
-use Rattle.curve.proofs.levers.levers.Reads as reads
-use Rattle.curve.proofs.levers.levers.Lts as lts
-use Rattle.curve.proofs.levers.lever.Reads as lever-reads
 
 abbrev Inv-loop : tie.InvT-loop
 Inv-loop kg kn g₀ i₀ g i = (i ≤ 13) × (length g ≡ 13) × Filled (pos 0) (gOf kn kg) i g
@@ -19,46 +17,36 @@ Inv-loop kg kn g₀ i₀ g i = (i ≤ 13) × (length g ≡ 13) × Filled (pos 0)
 abbrev μ-loop : tie.MeasureT-loop
 μ-loop kg kn g₀ i₀ g i = 13 - i
 
--- src/levers.rt:32:5
 loop-holds : tie.Need-loop-holds Inv-loop μ-loop
 loop-holds c = (omega arith, refl, filled-none _ _ _)
 
--- src/levers.rt:33:22
 mul-lever : tie.Need-mul-lever Inv-loop μ-loop
 mul-lever c = search needs
 
--- src/levers.rt:33:22
 array-read-lever : tie.Need-array-read-lever Inv-loop μ-loop
 array-read-lever c = search needs
 
--- src/levers.rt:33:16
 lever-requires : tie.Need-lever-requires Inv-loop μ-loop
 lever-requires c κs = (c .before .before .pre .forms (c .before .loop .i), c .before .before .pre .centre, search needs)
 
--- src/levers.rt:33:9
 mul-g : tie.Need-mul-g Inv-loop μ-loop
 mul-g c = search needs
 
--- src/levers.rt:33:9
 array-set-from-g : tie.Need-array-set-from-g Inv-loop μ-loop
 array-set-from-g c = search needs
 
--- src/levers.rt:34:13
 add-i : tie.Need-add-i Inv-loop μ-loop
 add-i c = search needs
 
--- src/levers.rt:32:5
 loop-less : tie.Need-loop-less Inv-loop μ-loop
 loop-less c = search needs
 
--- src/levers.rt:32:5
 loop-again : tie.Need-loop-again Inv-loop μ-loop
 unfolding gOf
 loop-again c =
     let l = c .before .before in
     (omega arith, simp length-set (l .loop .inv .1), filled-more _ _ _ _ _ (search needs) (l .loop .inv .2) (back (c .lever .result) (c .lever .ok) ∙ c .lever .ensures))
 
--- src/levers.rt:26:1
 returns : tie.Need-returns Inv-loop μ-loop
 returns c =
     let l = c .before .loop in

@@ -1,19 +1,16 @@
-use Rattle.curve.proofs.Machine.{tested-below}
-use lib.Signed.{ltZ}
-use lib.IntN.{ℤ, pos}
-use lib.ListN.{getD}
-use mathlib.Core.Bool.{Bool, true, false}
-use Rattle.curve.proofs.Steps.{peak-starts, peak-moves, peak-keeps}
-use borrow.Author.Needs.{needs}
-use native.Mathlib.Omega.{arith}
+-- `curve::searches::peak` meets its contract: `best` is the first with the greatest lever of the tenths passed. Assumes nothing.
+use mathlib.Core.Bool.{true, false}
 use mathlib.Core.Path.{_≡_}
-use Prim.Native.Nat.{ℕ, _+_, _-_, _≤_}
+use Prim.Native.Nat.{_+_, _-_, _≤_}
+use native.Mathlib.Omega.{arith}
+use lib.IntN.{pos}
+use lib.ListN.{getD}
 use Rattle.rules.specs.Rounding.{peak as peakOf}
 use Rattle.curve.specs.Levers.{held}
+use Rattle.curve.proofs.Machine.{tested-below}
+use Rattle.curve.proofs.Steps.{peak-starts, peak-moves, peak-keeps}
 use Rattle.curve.proofs.searches.peak.Statement.{statement}
 use Rattle.curve.proofs.searches.peak.Tie as tie
-use Rattle.curve.proofs.searches.peak.Reads as reads
-use Rattle.curve.proofs.searches.peak.Lts as lts
 
 abbrev Inv-loop : tie.InvT-loop
 Inv-loop y from to best₀ t₀ best t = (from ≤ t) × (t ≤ to) × (best ≤ t) × (best ≡ peakOf (λ k. held y (pos k)) from (t - from))
@@ -21,35 +18,27 @@ Inv-loop y from to best₀ t₀ best t = (from ≤ t) × (t ≤ to) × (best ≤
 abbrev μ-loop : tie.MeasureT-loop
 μ-loop y from to best₀ t₀ best t = to - t
 
--- src/searches.rt:15:5
 loop-holds : tie.Need-loop-holds Inv-loop μ-loop
 loop-holds c = (omega arith, omega arith, omega arith, peak-starts _ _)
 
--- src/searches.rt:16:13
 add-t : tie.Need-add-t Inv-loop μ-loop
 add-t c = omega arith
 
--- src/searches.rt:17:12
 mul-if1 : tie.Need-mul-if1 Inv-loop μ-loop
 mul-if1 c = omega arith
 
--- src/searches.rt:17:12
 element-copy-out-if1 : tie.Need-element-copy-out-if1 Inv-loop μ-loop
 element-copy-out-if1 c = omega arith
 
--- src/searches.rt:17:22
 mul-if1-2 : tie.Need-mul-if1-2 Inv-loop μ-loop
 mul-if1-2 c = omega arith
 
--- src/searches.rt:17:22
 element-copy-out-if1-2 : tie.Need-element-copy-out-if1-2 Inv-loop μ-loop
 element-copy-out-if1-2 c = omega arith
 
--- src/searches.rt:15:5
 loop-less : tie.Need-loop-less Inv-loop μ-loop
 loop-less c = omega arith
 
--- src/searches.rt:15:5
 loop-again : tie.Need-loop-again Inv-loop μ-loop
 unfolding held
 loop-again c =
@@ -58,11 +47,9 @@ loop-again c =
     let e = tested-below (getD y (l .loop .best) (pos 0)) (getD y (l .loop .t + 1) (pos 0)) true (c .before .before .if12 .given) (c .before .if13 .given) (c .if1 .taken) in
     (omega arith, omega arith, omega arith, peak-moves _ _ _ _ (omega arith) (l .loop .inv .3) e)
 
--- src/searches.rt:15:5
 loop-less-2 : tie.Need-loop-less-2 Inv-loop μ-loop
 loop-less-2 c = omega arith
 
--- src/searches.rt:15:5
 loop-again-2 : tie.Need-loop-again-2 Inv-loop μ-loop
 unfolding held
 loop-again-2 c =
@@ -71,7 +58,6 @@ loop-again-2 c =
     let e = tested-below (getD y (l .loop .best) (pos 0)) (getD y (l .loop .t + 1) (pos 0)) false (c .before .before .if12 .given) (c .before .if13 .given) (c .if1 .left) in
     (omega arith, omega arith, omega arith, peak-keeps _ _ _ _ (omega arith) (l .loop .inv .3) e)
 
--- src/searches.rt:9:1
 returns : tie.Need-returns Inv-loop μ-loop
 returns c = let e : c .before .loop .t ≡ c .before .before .args .to = omega arith in rw e at (c .before .loop .inv .3)
 

@@ -1,7 +1,8 @@
-use native.Mathlib.Omega.{arith}
+-- `curve::searches::reaches` meets its contract: what is searched for is still what is left to search for. Assumes nothing.
 use mathlib.Core.Path.{_≡_, refl, sym, _∙_}
 use mathlib.Core.Bool.{true, false}
 use Prim.Native.Nat.{_+_, _-_}
+use native.Mathlib.Omega.{arith}
 use lib.ListN.{getD}
 use lib.IntN.{pos}
 use mir.Syntax.{w64}
@@ -12,8 +13,6 @@ use Rattle.curve.proofs.Machine.{back, tested-within}
 use Rattle.curve.proofs.Steps.{reaches-here, reaches-later, reaches-none}
 use Rattle.curve.proofs.searches.reaches.Statement.{statement}
 use Rattle.curve.proofs.searches.reaches.Tie as tie
-use Rattle.curve.proofs.searches.reaches.Reads as reads
-use Rattle.curve.proofs.searches.reaches.Lts as lts
 
 abbrev Inv-loop : tie.InvT-loop
 Inv-loop y level from to t₀ t = reachesOf (held y) (toZ w64 level) from to ≡ reachesOf (held y) (toZ w64 level) t to
@@ -21,19 +20,15 @@ Inv-loop y level from to t₀ t = reachesOf (held y) (toZ w64 level) from to ≡
 abbrev μ-loop : tie.MeasureT-loop
 μ-loop y level from to t₀ t = to + 1 - t
 
--- src/searches.rt:34:5
 loop-holds : tie.Need-loop-holds Inv-loop μ-loop
 loop-holds c = refl
 
--- src/searches.rt:35:21
 mul-if1 : tie.Need-mul-if1 Inv-loop μ-loop
 mul-if1 c = omega arith
 
--- src/searches.rt:35:21
 element-copy-out-if1 : tie.Need-element-copy-out-if1 Inv-loop μ-loop
 element-copy-out-if1 c = omega arith
 
--- src/searches.rt:36:13
 returns : tie.Need-returns Inv-loop μ-loop
 unfolding held
 returns c =
@@ -42,15 +37,12 @@ returns c =
     let e = tested-within (s .args .level) (getD (s .args .y .now) (l .loop .t) (pos 0)) true (s .fits .level .sfits) (c .before .if12 .given) (c .if1 .taken) in
     reaches-here _ _ _ _ (omega arith) e ∙ sym (rw (back (s .args .level) (s .fits .level .sfits)) at (l .loop .inv))
 
--- src/searches.rt:38:13
 add-t : tie.Need-add-t Inv-loop μ-loop
 add-t c = omega arith
 
--- src/searches.rt:34:5
 loop-less : tie.Need-loop-less Inv-loop μ-loop
 loop-less c = omega arith
 
--- src/searches.rt:34:5
 loop-again : tie.Need-loop-again Inv-loop μ-loop
 unfolding held
 loop-again c =
@@ -59,7 +51,6 @@ loop-again c =
     let e = tested-within (s .args .level) (getD (s .args .y .now) (l .loop .t) (pos 0)) false (s .fits .level .sfits) (c .before .if12 .given) (c .if1 .left) in
     l .loop .inv ∙ rw (back (s .args .level) (s .fits .level .sfits)) (reaches-later _ _ _ _ (omega arith) e)
 
--- src/searches.rt:29:1
 returns-2 : tie.Need-returns-2 Inv-loop μ-loop
 returns-2 c =
     let s = c .before .before in

@@ -1,9 +1,10 @@
-use native.Mathlib.Omega.{arith}
-use mathlib.Core.Path.{_≡_, refl, sym, _∙_, ap}
+-- `curve::searches::stays` meets its contract: up to `last` the lever stays at or above the level, and the next tenth is that many tenths past that station. Assumes nothing.
+use mathlib.Core.Path.{_≡_, sym, _∙_, ap}
 use mathlib.Core.Bool.{true, false}
 use Prim.Native.Nat.{ℕ, _+_, _-_, _*_, _≤_}
+use native.Mathlib.Omega.{arith}
 use lib.ListN.{getD}
-use lib.IntN.{ℤ, pos}
+use lib.IntN.{pos}
 use lib.Signed.{ltZ}
 use mir.Syntax.{w64}
 use mir.Val.{toZ}
@@ -13,8 +14,6 @@ use Rattle.curve.proofs.Machine.{back, tested-below, at-or-above}
 use Rattle.curve.proofs.Steps.{stays-on, stays-to, stays-all}
 use Rattle.curve.proofs.searches.stays.Statement.{statement}
 use Rattle.curve.proofs.searches.stays.Tie as tie
-use Rattle.curve.proofs.searches.stays.Reads as reads
-use Rattle.curve.proofs.searches.stays.Lts as lts
 
 abbrev Inv-loop : tie.InvT-loop
 Inv-loop y level from to last₀ station tenth₀ last tenth = (last + 1 ≡ station * 50 + tenth) × (tenth ≤ 50) × (last ≤ to) × (staysOf (held y) (toZ w64 level) from to ≡ staysOf (held y) (toZ w64 level) (last + 1) to)
@@ -28,52 +27,40 @@ Inv-out y level from to last₀ station₀ tenth₀ last station tenth = (last +
 abbrev μ-out : tie.MeasureT-out
 μ-out y level from to last₀ station₀ tenth₀ last station tenth = 13 - station
 
--- src/searches.rt:50:24
 add-station : tie.Need-add-station Inv-loop μ-loop Inv-out μ-out
 add-station c = omega arith
 
--- src/searches.rt:51:22
 add-tenth : tie.Need-add-tenth Inv-loop μ-loop Inv-out μ-out
 add-tenth c = omega arith
 
--- src/searches.rt:52:5
 out-holds : tie.Need-out-holds Inv-loop μ-loop Inv-out μ-out
 out-holds c =
     (omega arith, omega arith, omega arith, rw (back (c .args .level) (c .fits .level .sfits)) (stays-on _ _ _ _ (omega arith) (at-or-above (held (c .args .y .now) (pos (c .args .from))) (c .args .level) (c .pre .2))))
 
--- src/searches.rt:53:9
 loop-holds : tie.Need-loop-holds Inv-loop μ-loop Inv-out μ-out
 loop-holds c = c .before .out .inv
 
--- src/searches.rt:57:18
 mul-if2 : tie.Need-mul-if2 Inv-loop μ-loop Inv-out μ-out
 mul-if2 c = omega arith
 
--- src/searches.rt:57:18
 add-if2 : tie.Need-add-if2 Inv-loop μ-loop Inv-out μ-out
 add-if2 c = omega arith
 
--- src/searches.rt:57:16
 mul-if2-2 : tie.Need-mul-if2-2 Inv-loop μ-loop Inv-out μ-out
 mul-if2-2 c = omega arith
 
--- src/searches.rt:57:16
 element-copy-out-if2 : tie.Need-element-copy-out-if2 Inv-loop μ-loop Inv-out μ-out
 element-copy-out-if2 c = omega arith
 
--- src/searches.rt:60:20
 add-last : tie.Need-add-last Inv-loop μ-loop Inv-out μ-out
 add-last c = omega arith
 
--- src/searches.rt:61:21
 add-tenth-2 : tie.Need-add-tenth-2 Inv-loop μ-loop Inv-out μ-out
 add-tenth-2 c = omega arith
 
--- src/searches.rt:53:9
 loop-less : tie.Need-loop-less Inv-loop μ-loop Inv-out μ-out
 loop-less c = omega arith
 
--- src/searches.rt:53:9
 loop-again : tie.Need-loop-again Inv-loop μ-loop Inv-out μ-out
 unfolding held
 loop-again c =
@@ -87,30 +74,24 @@ loop-again c =
       l .loop .inv .3 ∙ rw (back (s .args .level) (s .fits .level .sfits)) (stays-on _ _ _ _ (omega arith) (ap (λ (k : ℕ). ltZ (held (s .args .y .now) (pos k)) (s .args .level)) (l .loop .inv .0) ∙ e)),
     )
 
--- src/searches.rt:64:19
 add-station-2 : tie.Need-add-station-2 Inv-loop μ-loop Inv-out μ-out
 add-station-2 c = omega arith
 
--- src/searches.rt:52:5
 out-less : tie.Need-out-less Inv-loop μ-loop Inv-out μ-out
 out-less c = omega arith
 
--- src/searches.rt:52:5
 out-again : tie.Need-out-again Inv-loop μ-loop Inv-out μ-out
 out-again c = (omega arith, omega arith, omega arith, c .before .loop .inv .3)
 
--- src/searches.rt:45:1
 returns : tie.Need-returns Inv-loop μ-loop Inv-out μ-out
 returns c = absurd (omega arith)
 
--- src/searches.rt:45:1
 returns-2 : tie.Need-returns-2 Inv-loop μ-loop Inv-out μ-out
 returns-2 c =
     let l = c .before .before in
     let s = l .before .before .before in
     stays-all _ _ _ _ (omega arith) ∙ sym (rw (back (s .args .level) (s .fits .level .sfits)) at (l .loop .inv .3))
 
--- src/searches.rt:45:1
 returns-3 : tie.Need-returns-3 Inv-loop μ-loop Inv-out μ-out
 unfolding held
 returns-3 c =
