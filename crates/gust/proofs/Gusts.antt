@@ -16,6 +16,7 @@ use Rattle.rules.proofs.Signed.{up, dn, Le, up-neg, dn-neg, up-add, dn-add}
 use Rattle.rules.proofs.Angles.{u-is, gust, e-is}
 use Rattle.curve.specs.Levers.{upTo}
 use Rattle.curve.proofs.Areas.{leeward, windward}
+use Rattle.curve.proofs.Curves.{lever-odd, fair-upright}
 use Rattle.roll.specs.declared.Roll.the-variants as Roll
 use Rattle.roll.specs.Rolls.{rollOf}
 use Rattle.roll.proofs.Angles.{angle-range}
@@ -24,7 +25,7 @@ use Rattle.gust.specs.declared.Gust.{Gust}
 use Rattle.gust.specs.declared.Gust.the-variants.{NotJudged, Failed, Net}
 use Rattle.gust.specs.Gusts.{Blown, gustOf}
 use Rattle.gust.proofs.Machine.{abs-minus, abs-mul}
-use Rattle.gust.proofs.Limits.{odd, upTo-within}
+use Rattle.gust.proofs.Limits.{upTo-within}
 
 -- ---- the ways out
 module _ (c : Loaded) where
@@ -97,7 +98,7 @@ tilt-to (negsuc a) n h l = l
 -- The windward side is the mirror with its sign changed, so that an area from either side takes away the same area from upright.
 mirrored : (c : Loaded) → Fair c → (a : ℤ) (t : ℕ) → Le a (pos t) → area (y c) a (pos t) ≡ upTo (y c) t -ℤ upTo (y c) (natAbs a)
 mirrored c fair (pos a) t h = leeward (y c) a t (omega arith)
-mirrored c fair (negsuc a) t h = windward (y c) (odd c fair) (suc a) t
+mirrored c fair (negsuc a) t h = windward (y c) (lever-odd (c .kn) (c .kg) (fair-upright c fair)) (suc a) t
 
 -- ---- the angles
 module _ (c : Loaded) (blown : Blown c) where
@@ -131,7 +132,7 @@ module _ (c : Loaded) (blown : Blown c) where
   pub area-within : natAbs (area (y c) (start c) (pos (e c))) ≤ 2 * 10 ^ 15
   area-within =
       rw area-from
-      (omega (arith, abs-minus (upTo (y c) (e c)) (upTo (y c) (natAbs (start c))), upTo-within c (blown .fair) (e c), upTo-within c (blown .fair) (natAbs (start c)), end-range, start-tilt))
+      (omega (arith, abs-minus (upTo (y c) (e c)) (upTo (y c) (natAbs (start c))), upTo-within c (blown .fair) (e c) (omega (arith, end-range)), upTo-within c (blown .fair) (natAbs (start c)) (omega (arith, start-tilt)), end-range, start-tilt))
 
   -- ---- what is taken from it
   pub width-within : natAbs (pos (e c) -ℤ start c) ≤ 1000

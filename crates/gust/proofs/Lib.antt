@@ -1,4 +1,3 @@
 pub mod Machine
 pub mod Limits
-pub mod Agreeing
 pub mod Gusts

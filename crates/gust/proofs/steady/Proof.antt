@@ -10,10 +10,9 @@ use Rattle.rules.specs.Curve.{Loaded, E}
 use Rattle.rules.specs.Criteria.{lw1, lw2, units, reaches, phi0}
 use Rattle.book.specs.Book.{loadedOf}
 use Rattle.curve.specs.Levers.{held}
+use Rattle.curve.proofs.Curves.{reaches-held, fair-end}
 use Rattle.roll.specs.declared.WindLevers.{WindLevers}
 use Rattle.roll.proofs.Limits.{lw1-to, lw2-to}
-use Rattle.gust.proofs.Limits.{flooding-to}
-use Rattle.gust.proofs.Agreeing.{reaches-drawn}
 use Rattle.gust.proofs.steady.Statement.{statement}
 use Rattle.gust.proofs.steady.Tie as tie
 
@@ -32,7 +31,7 @@ phi0-is c =
     let s = c .before .before .before .before in
     c .reaches .ensures
     ∙ ap (λ (l : ℤ). reaches (held (s .args .y .now)) l 0 (E (ship s))) (lw1-is (c .before .before))
-    ∙ reaches-drawn (ship s) (s .args .y .now) (s .pre .1) (units (lw1 (ship s))) 0 (E (ship s)) (flooding-to _ (s .pre .0))
+    ∙ reaches-held (ship s .kn) (ship s .kg) (s .args .y .now) (s .pre .1) (units (lw1 (ship s))) 0 (E (ship s)) (fair-end _ (s .pre .0))
 
 wind-levers-requires : tie.Need-wind-levers-requires
 wind-levers-requires c κs = search needs
@@ -44,7 +43,7 @@ units-requires-2 : tie.Need-units-requires-2
 units-requires-2 c κs = rw (c .before .wind-levers .ensures) (omega (arith, lw2-to _ (c .before .before .pre .0)))
 
 reaches-requires : tie.Need-reaches-requires
-reaches-requires c κs = flooding-to _ (c .before .before .before .pre .0)
+reaches-requires c κs = fair-end _ (c .before .before .before .pre .0)
 
 returns : tie.Need-returns
 returns c = rw (lw1-is (c .before .before), lw2-is (c .before), phi0-is c)

@@ -16,12 +16,12 @@ use Rattle.rules.proofs.Signed.{le-true}
 use Rattle.rules.proofs.Angles.{u-is}
 use Rattle.book.specs.Book.{loadedOf}
 use Rattle.curve.specs.Levers.{held}
+use Rattle.curve.proofs.Curves.{held-is, reaches-held, stays-held}
 use Rattle.roll.proofs.Limits.{lw2-to}
 use Rattle.gust.specs.declared.Wind.{Wind}
 use Rattle.gust.specs.declared.Gust.the-variants.{Net}
 use Rattle.gust.specs.Gusts.{Blown}
 use Rattle.gust.proofs.Machine.{fits}
-use Rattle.gust.proofs.Agreeing.{y-at, reaches-drawn, stays-drawn}
 use Rattle.gust.proofs.Gusts.{no-heel, never-met, met, has-net}
 use Rattle.gust.proofs.withstood.Statement.{statement}
 use Rattle.gust.proofs.withstood.Tie as tie
@@ -45,7 +45,7 @@ met-at c =
     let s = c .before .before .before .before in
     let f = c .before .farthest .ensures in
     let same : reaches (held (s .args .y .now)) (toZ w64 (ofZ w64 (s .args .wind .lw2))) (s .args .wind .phi0) (c .before .farthest .result) ≡ reaches (held (s .args .y .now)) (units (lw2 (ship s))) (phi0 (ship s)) (farthest (ship s)) = rw (lw2-is s, phi0-is s, f) in
-    c .reaches .ensures ∙ same ∙ reaches-drawn (ship s) (s .args .y .now) (s .pre .2) (units (lw2 (ship s))) (phi0 (ship s)) (farthest (ship s)) (omega arith)
+    c .reaches .ensures ∙ same ∙ reaches-held (ship s .kn) (ship s .kg) (s .args .y .now) (s .pre .2) (units (lw2 (ship s))) (phi0 (ship s)) (farthest (ship s)) (omega arith)
 
 heels : (c : tie.Else1) → phi0 (ship (c .before .before)) ≤ E (ship (c .before .before))
 heels c = omega (arith, phi0-is (c .before .before), c .if1 .left)
@@ -59,7 +59,7 @@ blown c = let s = c .before .before .before .before .before in record { fair = s
 levelled : (c : tie.Else2) → leZ (toZ w64 (ofZ w64 (c .before .before .before .before .before .args .wind .lw2))) (held (c .before .before .before .before .before .args .y .now) (pos (c .before .reaches .result))) ≡ true
 levelled c =
     let s = c .before .before .before .before .before in
-    rw (lw2-is s, met-at (c .before), y-at (ship s) (s .args .y .now) (s .pre .2) (u (ship s)) (omega (arith, within c)))
+    rw (lw2-is s, met-at (c .before), held-is (ship s .kn) (ship s .kg) (s .args .y .now) (s .pre .2) (u (ship s)) (omega (arith, within c)))
     (le-true (units (lw2 (ship s))) (y (ship s) (pos (u (ship s)))) (u-is (ship s) .hit (within c)))
 
 ends-at : (c : tie.After-stays) → c .stays .result ≡ e (ship (c .before .before .before .before .before .before))
@@ -69,7 +69,7 @@ ends-at c =
     let r = c .before .before in
     let f = r .before .farthest .ensures in
     let same : stays (held (s .args .y .now)) (toZ w64 (ofZ w64 (s .args .wind .lw2))) (r .reaches .result) (r .before .farthest .result) ≡ stays (held (s .args .y .now)) (units (lw2 (ship s))) (u (ship s)) (farthest (ship s)) = rw (lw2-is s, met-at r, f) in
-    c .stays .ensures ∙ same ∙ stays-drawn (ship s) (s .args .y .now) (s .pre .2) (units (lw2 (ship s))) (u (ship s)) (farthest (ship s)) (omega arith)
+    c .stays .ensures ∙ same ∙ stays-held (ship s .kn) (ship s .kg) (s .args .y .now) (s .pre .2) (units (lw2 (ship s))) (u (ship s)) (farthest (ship s)) (omega arith)
 
 returns : tie.Need-returns
 returns c = let s = c .before .before in no-heel _ (s .pre .1) (omega (arith, phi0-is s, c .if1 .taken))
