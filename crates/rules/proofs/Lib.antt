@@ -19,3 +19,5 @@ pub mod Rows
 pub mod Searches
 pub mod Roll
 pub mod Ranges
+pub mod Angles
+pub mod Divisions

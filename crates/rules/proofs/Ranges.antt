@@ -6,7 +6,7 @@ use native.Mathlib.Omega.{arith}
 use native.Mathlib.Nat.{mul-le-mul, mul-le-mul-left, div-mul-le-self, div-lt-iff-lt-mul}
 use lib.Dec.{leb, ltb, eqb}
 use lib.IntN.{ℤ, pos, negℤ, negsuc, subℕ, natAbs, _+ℤ_, _*ℤ_}
-use borrow.Author.Tests.{leb-false, ltb-false}
+use borrow.Author.Tests.{leb-false, ltb-false, lt-leb, le-ltb}
 use Rattle.rules.specs.Rounding.{ceil, ceilZ, Way, table}
 use Rattle.rules.specs.Curve.{Loaded}
 use Rattle.rules.specs.Roll.{b, C, q, period, longestPeriod, X1, X2, K, S, keelIndex, k, x1, x2, s, p, r, rOf, phi1, notJudged}
@@ -49,9 +49,9 @@ pub record Judged (c : Loaded) : Type 0 where
   pub beam : 10 * c .ship .breadth < 35 * c .draught
   pub kgFrom : 7 * c .draught ≤ 10 * c .kg
   pub kgTo : 10 * c .kg ≤ 15 * c .draught
-  pub swift : period c < longestPeriod
+  pub swift : period c < 2_000
 
-neither : (a b : Bool) → a || b ≡ false → (a ≡ false) × (b ≡ false)
+pub neither : (a b : Bool) → a || b ≡ false → (a ≡ false) × (b ≡ false)
 neither true b e = let z : _≡_ {A = ℕ} 0 1 = cc in absurd (omega arith)
 neither false b e = (refl, e)
 
@@ -74,6 +74,10 @@ judged c h =
         let m = neither (v || w) x (l .0) in
         let n = neither v w (m .0) in
         (n .0, n .1, m .1, l .1, k .1)
+
+pub judged-where : (c : Loaded) → Judged c → notJudged c ≡ false
+unfolding notJudged
+judged-where c j = rw (lt-leb (c .km) (c .kg) (j .gm), lt-leb (35 * c .draught) (10 * c .ship .breadth) (j .beam), le-ltb (10 * c .kg) (7 * c .draught) (j .kgFrom), le-ltb (15 * c .draught) (10 * c .kg) (j .kgTo), lt-leb longestPeriod (period c) (j .swift))
 
 module _ (c : Loaded) (j : Judged c) where
   draught-pos : 0 < c .draught

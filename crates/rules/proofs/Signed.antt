@@ -68,6 +68,21 @@ at-least a b e = le? a b (subst T (sym e) tt)
 pub not-at-least : (a b : ℤ) → leZ a b ≡ false → Lt b a
 not-at-least a b e = elim (decLt (up b + dn a) (up a + dn b)) [ yes l ↦ l | no l ↦ absurd (subst T e (le! a b (omega arith))) ]
 
+-- And what makes it come out.
+pub le-true : (a b : ℤ) → Le a b → leZ a b ≡ true
+le-true a b h = go (leZ a b) refl
+  where
+    go : (t : Bool) → leZ a b ≡ t → leZ a b ≡ true
+    go true e = e
+    go false e = absurd (omega (arith, not-at-least a b e))
+
+pub le-false : (a b : ℤ) → Lt b a → leZ a b ≡ false
+le-false a b h = go (leZ a b) refl
+  where
+    go : (t : Bool) → leZ a b ≡ t → leZ a b ≡ false
+    go true e = absurd (omega (arith, at-least a b e))
+    go false e = e
+
 -- ---- the operations, one equation each
 pub sub≡ : (a b : ℕ) → up (subℕ a b) + b ≡ a + dn (subℕ a b)
 sub≡ a b = go (ltb a b) (λ t. ltb→lt a b t) (λ t. nltb→le a b t)
@@ -111,9 +126,9 @@ pub dn-mull : (k : ℕ) (a : ℤ) → dn (pos k *ℤ a) ≡ k * dn a
 dn-mull k (pos a) = sym (mul-zero k)
 dn-mull k (negsuc a) = dn-neg (pos (k * suc a))
 
-pub abs≡ : (a : ℤ) → natAbs a ≡ up a + dn a
-abs≡ (pos n) = omega arith
-abs≡ (negsuc n) = omega arith
+pub abs-pos : (a : ℤ) → Le (pos 0) a → (natAbs a ≡ up a) × (dn a ≡ 0)
+abs-pos (pos n) h = (refl, refl)
+abs-pos (negsuc n) h = absurd (omega arith)
 
 -- A difference of two naturals, as code makes it.
 pub sub-is : (a b : ℕ) → pos a -ℤ pos b ≡ subℕ a b

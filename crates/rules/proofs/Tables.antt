@@ -28,6 +28,9 @@ pub record Linear (way : Way) (ps : List Point) (f : ℕ → ℕ) : Type 0 where
   pub beyond : (a : List Point) (p : Point) → a ++ (p ∷ []) ≡ ps → (x : ℕ) → p .place ≤ x → f x ≡ p .value
 
 -- ---- the order of the points
+none : _≡_ {A = Bool} false true → ⊥
+none e = let z : _≡_ {A = ℕ} 0 1 = cc in omega arith
+
 both : (a b : Bool) → a && b ≡ true → (a ≡ true) × (b ≡ true)
 both true b e = (refl, e)
 both false b e = let z : _≡_ {A = ℕ} 0 1 = cc in absurd (omega arith)
@@ -99,9 +102,10 @@ module _ (way : Way) where
       o : (a b : List Point) → a ++ b ≡ ps → inOrder (a ++ b) ≡ true
       o a b e = rw e h
 
-  -- And nothing else is.
-  pub linear-unique : (p : Point) (ps : List Point) (f g : ℕ → ℕ) → Linear way (p ∷ ps) f → Linear way (p ∷ ps) g → (x : ℕ) → f x ≡ g x
-  linear-unique p ps f g k l x = elim (decLe x (p .place)) [
+  -- And nothing else is, of a table with a point.
+  pub linear-unique : (ps : List Point) → full ps ≡ true → (f g : ℕ → ℕ) → Linear way ps f → Linear way ps g → (x : ℕ) → f x ≡ g x
+  linear-unique [] h f g k l x = absurd (none h)
+  linear-unique (p ∷ ps) h f g k l x = elim (decLe x (p .place)) [
     | yes m ↦ k .before ps p refl x m ∙ sym (l .before ps p refl x m)
     | no m ↦ go [] p ps refl (omega arith)
   ]
@@ -142,10 +146,7 @@ module _ (way : Way) (low high : ℕ) where
 
   pub table-within : (ps : List Point) → full ps ≡ true → inOrder ps ≡ true → valuesWithin low high ps ≡ true → (x : ℕ) → (low ≤ table way ps x) × (table way ps x ≤ high)
   unfolding table
-  table-within [] f h v x = absurd (never f)
-    where
-      never : _≡_ {A = Bool} false true → ⊥
-      never e = let z : _≡_ {A = ℕ} 0 1 = cc in omega arith
+  table-within [] f h v x = absurd (none f)
   table-within (p ∷ ps) f h v x = onward-within p ps h v (max x (p .place)) (omega arith)
 
 -- ---- the tables of criterion 8

@@ -1,0 +1,4 @@
+pub mod Order
+pub mod Keeps
+pub mod Limits
+pub mod Exact

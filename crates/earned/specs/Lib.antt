@@ -1,0 +1,4 @@
+pub mod Order
+pub mod Verdicts
+pub mod Exact
+pub mod Limits
