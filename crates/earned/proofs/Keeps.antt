@@ -1,10 +1,12 @@
 -- A hull that is no worse keeps every pass of criteria 1, 2, 3, 4, 6 and 7, across denominators.
-use mathlib.Core.Path.{_≡_, refl}
+use mathlib.Core.Path.{_≡_, refl, sym}
 use mathlib.Core.Bool.{Bool, true, false, _&&_}
-use Prim.Native.Nat.{ℕ, _-_, _*_, _≤_, _<_, min}
+use mathlib.Core.List.{List, [], _∷_, map}
+use Prim.Native.Nat.{ℕ, zero, suc, _-_, _*_, _≤_, _<_, min}
 use native.Mathlib.Omega.{arith}
-use native.Mathlib.Nat.{mul-le-mul-right}
+use native.Mathlib.Nat.{mul-le-mul-right, mul-zero}
 use lib.Dec.{leb, ltb}
+use lib.ListN.{getD}
 use lib.IntN.{ℤ, pos, subℕ}
 use lib.Signed.{leZ}
 use borrow.Author.Tests.{leb-true, le-leb}
@@ -76,3 +78,22 @@ over-one seven c = refl
 -- A pass with the numbers used is a pass with any exact values behind them.
 pub earned : (D : ℕ) (h : Hull) (c : Loaded) → Behind D h c → (k : Criterion) → passes k c ≡ true → passesOver D k (c .weather) h ≡ true
 earned D h c b k p = keeps D 1 1 D (omega arith) (omega arith) (c .weather) (used c) h b k (rw over-one p)
+
+-- ---- the verdict does not depend on the denominator: every number S times as fine gives the same
+abbrev pub finer : ℕ → Hull → Hull
+finer S h = record { kn = map (λ v. S * v) (h .kn); km = S * h .km; kg = S * h .kg; lw1 = S * h .lw1 }
+
+getD-finer : (S : ℕ) (l : List ℕ) (i : ℕ) → getD (map (λ v. S * v) l) i 0 ≡ S * getD l i 0
+getD-finer S [] i = sym (mul-zero S)
+getD-finer S (v ∷ l) zero = refl
+getD-finer S (v ∷ l) (suc i) = getD-finer S l i
+
+pub same-verdict : (S D : ℕ) → 0 < S → (c : Weather) (h : Hull) (k : Criterion) → passesOver (S * D) k c (finer S h) ≡ passesOver D k c h
+same-verdict S D some c h k = same (passesOver (S * D) k c (finer S h)) (passesOver D k c h)
+    (keeps 1 S (S * D) D some (omega arith) c (finer S h) h (record { kn = λ i. omega (arith, getD-finer S (h .kn) i); km = omega arith; kg = omega arith; lw1 = omega arith }) k)
+    (keeps S 1 D (S * D) (omega arith) (omega arith) c h (finer S h) (record { kn = λ i. omega (arith, getD-finer S (h .kn) i); km = omega arith; kg = omega arith; lw1 = omega arith }) k)
+  where
+    same : (a b : Bool) → (a ≡ true → b ≡ true) → (b ≡ true → a ≡ true) → a ≡ b
+    same true b f g = sym (f refl)
+    same false true f g = g refl
+    same false false f g = refl

@@ -2,3 +2,4 @@ pub mod Order
 pub mod Verdicts
 pub mod Exact
 pub mod Limits
+pub mod Gust
