@@ -5,3 +5,5 @@ pub mod Exact
 pub mod Fifth
 pub mod Steps
 pub mod Grid
+pub mod Finer
+pub mod Eighth
