@@ -7,3 +7,4 @@ pub mod Steps
 pub mod Grid
 pub mod Finer
 pub mod Eighth
+pub mod Upright
