@@ -47,7 +47,7 @@ module _ (q : ℕ) (some : 0 < q) (c : Loaded) (upright : y c (pos 0) ≡ pos 0)
   abbrev tenth : ℕ → ℕ
   tenth x = x / q
 
-  at : (x t r : ℕ) → q * t + r ≡ x → r ≤ q → yBy q c (pos x) ≡ pos (q - r) *ℤ y c (pos t) +ℤ pos r *ℤ y c (pos (t + 1))
+  pub at : (x t r : ℕ) → q * t + r ≡ x → r ≤ q → yBy q c (pos x) ≡ pos (q - r) *ℤ y c (pos t) +ℤ pos r *ℤ y c (pos (t + 1))
   at x t r e l = let f : q - r + r ≡ q = omega arith in sym (ap (λ (k : ℕ). yBy q c (pos k)) e) ∙ between q some c upright (q - r) r f (pos t)
 
   under : (l x t r : ℕ) → q * t + r ≡ x → r < q → Lt (y c (pos t)) (pos l) → (0 < r → Le (y c (pos (t + 1))) (pos l)) → Lt (yBy q c (pos x)) (pos (q * l))
@@ -77,28 +77,28 @@ module _ (q : ℕ) (some : 0 < q) (c : Loaded) (upright : y c (pos 0) ≡ pos 0)
 
   -- ---- phi0
   module _ (gusty : noGust c ≡ false) where
-    heel-is : Reaches (yBy q c) (unitsBy q (lw1 c)) 0 (q * E c) (phi0By q c)
+    pub heel-is : Reaches (yBy q c) (unitsBy q (lw1 c)) 0 (q * E c) (phi0By q c)
     unfolding phi0By
     heel-is = reaches-is (yBy q c) (unitsBy q (lw1 c)) 0 (q * E c)
 
-    heel-to : phi0By q c ≤ q * phi0 c
+    pub heel-to : phi0By q c ≤ q * phi0 c
     heel-to = elim (decLe (phi0By q c) (q * phi0 c)) [
       | yes k ↦ k
       | no k ↦ absurd (omega (arith, heel-is .before (q * phi0 c) (omega arith) (omega arith), above (5_000_000 * lw1 c) (q * phi0 c) (phi0 c) 0 (omega arith) (omega arith) (phi0-is c .hit (gust c gusty .0)) (λ none. absurd (omega arith))))
     ]
 
-    heel-hit : Le (unitsBy q (lw1 c)) (yBy q c (pos (phi0By q c)))
+    pub heel-hit : Le (unitsBy q (lw1 c)) (yBy q c (pos (phi0By q c)))
     heel-hit = heel-is .hit (omega (arith, heel-to, mul-le-mul-left q (gust c gusty .0)))
 
     -- Later than the tenth before the one used.
-    heel-from : (m : ℕ) → phi0 c ≡ suc m → q * m < phi0By q c
+    pub heel-from : (m : ℕ) → phi0 c ≡ suc m → q * m < phi0By q c
     heel-from m e = elim (decLe (phi0By q c) (q * m)) [
       | no k ↦ omega arith
       | yes k ↦ absurd (omega (arith, heel-hit, up-to (5_000_000 * lw1 c) m (λ t i. phi0-is c .before t (omega arith) (omega arith)) (phi0By q c) k))
     ]
 
     -- On a tenth, that tenth.
-    heel-whole : y c (pos (phi0 c)) ≡ units (lw1 c) → phi0By q c ≡ q * phi0 c
+    pub heel-whole : y c (pos (phi0 c)) ≡ units (lw1 c) → phi0By q c ≡ q * phi0 c
     heel-whole e = elim (decLe (q * phi0 c) (phi0By q c)) [
       | yes k ↦ omega (arith, heel-to)
       | no k ↦ absurd (omega (arith, heel-hit, before (5_000_000 * lw1 c) (phi0 c) (λ t i. phi0-is c .before t (omega arith) i) (omega (arith, ap up e, ap dn e)) (phi0By q c) (omega arith)))
@@ -155,7 +155,7 @@ module _ (q : ℕ) (some : 0 < q) (c : Loaded) (upright : y c (pos 0) ≡ pos 0)
     ]
 
     -- ---- e
-    end-is : Stays (yBy q c) (unitsBy q (lw2 c)) (uBy q c) (q * farthest c) (eBy q c)
+    pub end-is : Stays (yBy q c) (unitsBy q (lw2 c)) (uBy q c) (q * farthest c) (eBy q c)
     unfolding eBy
     end-is = stays-is (yBy q c) (unitsBy q (lw2 c)) (uBy q c) (q * farthest c) rise-in (rise-is .hit rise-in)
 

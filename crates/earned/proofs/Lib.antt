@@ -8,3 +8,4 @@ pub mod Grid
 pub mod Finer
 pub mod Eighth
 pub mod Upright
+pub mod Exactly
