@@ -50,13 +50,13 @@ module _ (a b v w : ℤ) where
       go false e = refl
 
 -- 'Start = phi0 if y(phi0) = lw1, else phi0 - 1; less phi1.'
-pub start-at : (c : Loaded) → y c (pos (phi0 c)) ≡ units (lw1 c) → start c ≡ pos (phi0 c) -ℤ pos (phi1 c)
-unfolding start
-start-at c h = at-level (y c (pos (phi0 c))) (units (lw1 c)) (pos (phi0 c) -ℤ pos (phi1 c)) (pos (phi0 c) -ℤ pos 1 -ℤ pos (phi1 c)) h
-
 pub start-before : (c : Loaded) → phi0 c ≤ E c → (y c (pos (phi0 c)) ≡ units (lw1 c) → ⊥) → start c ≡ pos (phi0 c) -ℤ pos 1 -ℤ pos (phi1 c)
 unfolding start
 start-before c h n = above-level (y c (pos (phi0 c))) (units (lw1 c)) (pos (phi0 c) -ℤ pos (phi1 c)) (pos (phi0 c) -ℤ pos 1 -ℤ pos (phi1 c)) (phi0-is c .hit h) n
+
+pub start-at : (c : Loaded) → y c (pos (phi0 c)) ≡ units (lw1 c) → start c ≡ pos (phi0 c) -ℤ pos (phi1 c)
+unfolding start
+start-at c h = at-level (y c (pos (phi0 c))) (units (lw1 c)) (pos (phi0 c) -ℤ pos (phi1 c)) (pos (phi0 c) -ℤ pos 1 -ℤ pos (phi1 c)) h
 
 -- 'u = first t from phi0 to min(E, 500) with y >= lw2.'
 pub u-is : (c : Loaded) → Reaches (y c) (units (lw2 c)) (phi0 c) (farthest c) (u c)

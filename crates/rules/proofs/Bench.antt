@@ -1,12 +1,10 @@
 -- 'Bench sheet': P1 to P13, of the definitions, as one list and one theorem over it.
-use mathlib.Core.Path.{_≡_, refl}
-use mathlib.Core.List.{List, [], _∷_, _++_}
+use mathlib.Core.Path.{refl}
+use mathlib.Core.List.{List, [], _∷_}
 use Prim.Native.String.{String}
-use Prim.Native.Char.{code}
 use Prim.Native.Nat.{ℕ}
 use lib.IntN.{ℤ, pos, negℤ}
 use Rattle.rules.specs.Rounding.{up, table}
-use Rattle.rules.specs.Text.{LF}
 use Rattle.rules.specs.Layout.{Reading}
 use Rattle.rules.specs.Answers.{Ans, refused, got}
 use Rattle.rules.specs.Walk.{read}
@@ -14,74 +12,34 @@ use Rattle.rules.specs.Curve.{Loaded, loaded, leverZ, y}
 use Rattle.rules.specs.Criteria.{lw1, lw2}
 use Rattle.rules.specs.Roll.{period, s, phi1, start, e, rOf, X1}
 use Rattle.rules.specs.Answer.{answered, reportOf}
+use Rattle.rules.proofs.Cases.{Case, judges, refuses, gives, All, lines, broken, refusal}
 
--- ---- what the sheet writes
-abbrev chars : String → List ℕ
-chars String.[] = []
-chars (String._∷_ c s) = code c ∷ chars s
-
--- Lines, each with its LF.
-abbrev lines : List String → List ℕ
-lines [] = []
-lines (l ∷ ls) = chars l ++ (LF ∷ lines ls)
-
--- 'One line, broken here for the page.'
-abbrev broken : List String → List ℕ
-broken [] = LF ∷ []
-broken (l ∷ ls) = chars l ++ broken ls
-
--- ---- a case
--- A text is judged with a report; it is refused with number, line and offset, and a report; or numbers come to others.
-pub data Case : Type 0 where
-  judges : (text report : List ℕ) → Case
-  refuses : (text : List ℕ) (number line offset : ℕ) (report : List ℕ) → Case
-  gives : (found due : List ℤ) → Case
-
-abbrev pub Holds : Case → Type 0
-Holds (judges t r) = reportOf (answered t) ≡ r
-Holds (refuses t n l o r) = (answered t ≡ refused n l o) × (reportOf (answered t) ≡ r)
-Holds (gives found due) = found ≡ due
-
-abbrev pub All : List Case → Type 0
-All [] = Unit {0}
-All (c ∷ cs) = Holds c × All cs
-
--- ---- the sheet
-abbrev ship : String
+-- The input of P1, with any condition.
+abbrev pub ship : String
 ship = "A1000D0000C350000027100000000000"
 
-abbrev row1 : String
+abbrev pub row1 : String
 row1 = "A2002200155CC00FA0119400000189030F04970620078A08FC0A220B050BA20C5C0CCD0D48"
 
-abbrev row2 : String
+abbrev pub row2 : String
 row2 = "A2002200186A001130119400000189030F04970620078A08FC0A220B050BA20C5C0CCD0D48"
 
--- The input of P1 with another condition.
-abbrev with : String → List ℕ
-with c = lines (ship ∷ row1 ∷ row2 ∷ c ∷ [])
+abbrev pub with : String → List ℕ
+with condition = lines (ship ∷ row1 ∷ row2 ∷ condition ∷ [])
 
 abbrev P1 : List ℕ
 P1 = with "A30018C1000C000009C40FA002BC01F400C8C2000600155CC00FA0"
 
+abbrev pub P1-output : List ℕ
+P1-output = broken ("D1006500000000000101010101010101" ∷ "0000000000155CC00000000000000FA000000000000001F4" ∷ "000000645737BC0000000042E46A1900000000A73BA1D500" ∷ "0000000059682F00000000000000012C000000000000002A" ∷ "00000000000000EF000000478E8D8F80" ∷ [])
+
 -- 'Of P1', as read from its text.
-abbrev ofReading : (Loaded → List ℤ) → Ans Reading → List ℤ
-ofReading f (got r) = f (loaded r)
-ofReading f (refused n l o) = []
+abbrev of : (Loaded → List ℤ) → Ans Reading → List ℤ
+of f (got r) = f (loaded r)
+of f (refused n l o) = []
 
 abbrev ofP1 : (Loaded → List ℤ) → List ℤ
-ofP1 f = ofReading f (read P1)
-
-abbrev noFigures : String
-noFigures = "00000000000000000000000000000000000000000000000000000000000000000000000000000000000000000000000000000000000000000000000000000000000000000000000000000000000000000000000000000000"
-
-abbrev P1-output : List ℕ
-P1-output = broken (
-    "D1006500000000000101010101010101"
-    ∷ "0000000000155CC00000000000000FA000000000000001F4"
-    ∷ "000000645737BC0000000042E46A1900000000A73BA1D500"
-    ∷ "0000000059682F00000000000000012C000000000000002A"
-    ∷ "00000000000000EF000000478E8D8F80"
-    ∷ [])
+ofP1 f = of f (read P1)
 
 -- P1 to P13, in the sheet's order.
 abbrev pub bench : List Case
@@ -95,10 +53,10 @@ bench =
     ∷ gives (ofP1 (λ c. start c ∷ pos (e c) ∷ [])) (negℤ (pos 198) ∷ pos 500 ∷ [])
     ∷ gives (rOf 3_999 4_000 ∷ rOf 4_001 4_000 ∷ []) (pos 730 ∷ pos 731 ∷ [])
     ∷ gives (pos (table up X1 3_300) ∷ []) (pos 840 ∷ [])
-    ∷ refuses (with "A30018C1000C000009C40FA002BC01F400C8C2000700155CC00FA0") 2 4 18 (broken ("D1006502000400120303030303030303" ∷ noFigures ∷ []))
-    ∷ refuses (with "A30018C1000C000009C40FA002BC01F400C8C2000500155CC00FA0") 3 4 18 (broken ("D1006503000400120303030303030303" ∷ noFigures ∷ []))
-    ∷ refuses (lines []) 5 0 0 (broken ("D1006505000000000303030303030303" ∷ noFigures ∷ []))
-    ∷ refuses (with "A30018C1000C000009C40FA002BC01F400C8C2000600155CBF0FA0") 7 0 0 (broken ("D1006507000000000303030303030303" ∷ noFigures ∷ []))
+    ∷ refuses (with "A30018C1000C000009C40FA002BC01F400C8C2000700155CC00FA0") 2 4 18 (refusal "D100650200040012")
+    ∷ refuses (with "A30018C1000C000009C40FA002BC01F400C8C2000500155CC00FA0") 3 4 18 (refusal "D100650300040012")
+    ∷ refuses [] 5 0 0 (refusal "D100650500000000")
+    ∷ refuses (with "A30018C1000C000009C40FA002BC01F400C8C2000600155CBF0FA0") 7 0 0 (refusal "D100650700000000")
     ∷ []
 
 pub bench-holds : All bench

@@ -1,14 +1,14 @@
 -- Laws of the tables of fields: within its limits, a body and its values determine each other, in every block of fixed size.
 use mathlib.Core.Path.{_≡_, refl, ap, ap₂, sym, _∙_}
 use mathlib.Core.Bool.{Bool, true, false, _&&_}
-use mathlib.Core.List.{List, [], _∷_, _++_}
+use mathlib.Core.List.{List, [], _∷_}
 use Prim.Native.Nat.{ℕ, zero, suc, _+_, _^_, _≤_, _<_}
 use native.Mathlib.Omega.{arith}
 use lib.ListN.{length, take, drop, getD, length-append, length-take, length-drop, take-append-drop, drop-of-length-le}
 use lib.Seq.{drop-cons, take-at, drop-at}
 use lib.Dec.{ltb, leb}
 use borrow.Author.Tests.{ltb-true, leb-true}
-use Rattle.rules.specs.Numbers.{num, digits, Bytes}
+use Rattle.rules.specs.Numbers.{digits, Bytes}
 use Rattle.rules.specs.Blocks.{Field, size, values, spellValues, within, Layout, ok, ship, row, weather, Load, item, tank, entry}
 use Rattle.rules.proofs.Numbers.{Bytes-take, Bytes-drop, Bytes-append, Bytes-digits, length-digits, num-digits, digits-num}
 

@@ -4,18 +4,18 @@ use mathlib.Core.Bool.{Bool, true, false, cond}
 use mathlib.Core.List.{List, [], _∷_, _++_, append-nil}
 use Prim.Native.Nat.{ℕ, _+_, _-_, _≤_, _<_}
 use native.Mathlib.Omega.{arith}
-use lib.ListN.{length}
-use lib.Dec.{ltb, leb, eqb}
+use lib.ListN.{length, getD}
+use lib.Dec.{eqb}
 use borrow.Author.Tests.{ltb-true, leb-true, eqb-true, lt-ltb, le-leb}
 use Rattle.rules.specs.Numbers.{Bytes}
 use Rattle.rules.specs.Text.{Lines}
 use Rattle.rules.specs.Blocks.{block, spellValues, Layout, ok, spellBlock, Ship, ship, Row, row, conditionTag}
 use Rattle.rules.specs.Layout.{Condition, Reading, spellCondition, rowFrames, frames, Rising, fewestRows, mostRows, mostBytes, ConditionLimits}
-use Rattle.rules.specs.Answers.{Ans, refused, got}
-use Rattle.rules.specs.Walk.{Head, header, conditionIn, fixedIn, shipFrame, rowIn, Frame, aRow, aCondition, frameOf, Found, tableRow, theCondition, found, frameAt, closed, Tail, after, tail, readFrames}
+use Rattle.rules.specs.Answers.{Ans, refused, got, _>>=_}
+use Rattle.rules.specs.Walk.{Head, header, inside, conditionIn, fixedIn, shipFrame, rowIn, Frame, aRow, aCondition, frameOf, Found, tableRow, theCondition, found, frameAt, closed, Tail, after, tail, readFrames}
 use Rattle.rules.proofs.Answers.{refused-got, bind-inv, test-inv, bind-got, test-got}
 use Rattle.rules.proofs.Fields.{Lawful, length-fits, ship-lawful, row-lawful}
-use Rattle.rules.proofs.Heads.{full-block, Bytes-block, Bytes-fixed, header-sound, header-got, fixed-sound, fixed-got}
+use Rattle.rules.proofs.Heads.{Bytes-block, Bytes-fixed, header-sound, header-got, header-tag, fixed-sound, fixed-got}
 use Rattle.rules.proofs.Conditions.{Bytes-condition, inside-sound, inside-got}
 
 -- ---- a frame that fills its line
@@ -58,6 +58,25 @@ frameOf-sound ln t x e = go (eqb t (row .tag)) (eqb t conditionTag) refl refl e
     go true b p q e = let z : aRow ≡ x = cc in rw (← z) (sym (eqb-true _ _ p))
     go false true p q e = let z : aCondition ≡ x = cc in rw (← z) (sym (eqb-true _ _ q))
     go false false p q e = refused-got e
+
+-- The tags of a frame that is read as a row's, and of the ship's.
+pub row-tag : (ln k p : ℕ) (l : List ℕ) (v : Row) → frameAt ln k p l ≡ got (tableRow v) → getD l 0 0 ≡ row .tag
+unfolding frameAt found
+row-tag ln k p l v e =
+    let a = bind-inv _ _ e in
+    let b = bind-inv _ _ (a .2) in
+    header-tag ln 0 l (a .0) (a .1) ∙ go (a .0) (b .0) (frameOf-sound ln (a .0 .tag) (b .0) (b .1)) (b .2)
+  where
+    go : (h : Head) (t : Frame) → code t ≡ h .tag → found ln k p h t ≡ got (tableRow v) → h .tag ≡ row .tag
+    go h aRow c e = sym c
+    go h aCondition c e = absurd (let x = bind-inv _ _ (test-inv _ _ _ _ _ e .1) in let z : _≡_ {A = ℕ} 0 1 = cc in omega arith)
+
+pub ship-tag : (ln : ℕ) (l : List ℕ) (v : Ship) → shipFrame ln l ≡ got v → getD l 0 0 ≡ ship .tag
+unfolding shipFrame
+ship-tag ln l v e =
+    let a = bind-inv _ _ e in
+    let b = test-inv _ _ _ _ _ (a .2) in
+    header-tag ln 0 l (a .0) (a .1) ∙ eqb-true _ _ (b .0)
 
 closed-sound : (ln : ℕ) (ls : List (List ℕ)) (u : Unit {0}) → closed ln ls ≡ got u → ls ≡ []
 unfolding closed
@@ -157,21 +176,32 @@ readFrames-sound (l ∷ ls) r B e =
     })
 
 -- ---- complete
+-- The ship's frame, a row's and the condition's, where they are within their limits.
+pub ship-got : (ln : ℕ) (v : Ship) → ok ship v ≡ true → shipFrame ln (spellBlock ship v) ≡ got v
+unfolding shipFrame spellBlock
+ship-got ln v e = bind-got _ (frame-got ln (ship .tag) (spellValues (ship .fields) (ship .listed v)) (length-fits ship ship-lawful v e)) ∙ test-got _ _ _ _ refl ∙ fixedIn-got ln ship ship-lawful v e
+
+pub tail-row : (v : Row) (ls : List (List ℕ)) (ln k p : ℕ) → ok row v ≡ true → p < v .mass → k < mostRows
+    → tail (spellBlock row v ∷ ls) ln k p ≡ (tail ls (ln + 1) (k + 1) (v .mass) >>= λ x. got (record { rows = v ∷ x .rows; condition = x .condition }))
+unfolding tail frameAt frameOf found rowIn after spellBlock
+tail-row v ls ln k p e r m =
+    bind-got _ (bind-got _ (frame-got ln (row .tag) (spellValues (row .fields) (row .listed v)) (length-fits row row-lawful v e)) ∙ bind-got _ refl
+    ∙ test-got _ _ _ _ (lt-ltb k mostRows m) ∙ bind-got _ (bind-got _ (fixedIn-got ln row row-lawful v e) ∙ test-got _ _ _ _ (lt-ltb p (v .mass) r)))
+
+pub condition-frame : (ln k p : ℕ) (body : List ℕ) → fewestRows ≤ k → length body ≤ mostBytes → frameAt ln k p (block conditionTag body) ≡ (inside ln body >>= λ c. got (theCondition c))
+unfolding frameAt frameOf found conditionIn
+condition-frame ln k p body h l =
+    bind-got _ (frame-got ln conditionTag body (omega arith)) ∙ bind-got _ refl ∙ test-got _ _ _ _ (le-leb fewestRows k h)
+    ∙ ap (_>>= λ c. got (theCondition c)) (test-got _ _ _ _ refl ∙ test-got _ _ _ _ (le-leb _ _ l))
+
 tail-got : (vs : List Row) (c : Condition) (ln k p : ℕ) → Rising p vs → fewestRows ≤ k + length vs → length vs ≤ mostRows - k → ConditionLimits c → tail (rowFrames vs c) ln k p ≡ got (record { rows = vs; condition = c })
-unfolding tail rowFrames spellBlock Rising frameAt found after rowIn conditionIn frameOf closed
-tail-got [] c ln k p R a b l =
-    bind-got _ (bind-got _ (frame-got ln conditionTag (spellCondition c) (omega (arith, l .long))) ∙ bind-got _ refl
-    ∙ test-got _ _ _ _ (le-leb fewestRows k (omega arith)) ∙ bind-got _ (test-got _ _ _ _ refl ∙ test-got _ _ _ _ (le-leb _ _ (l .long)) ∙ inside-got ln c l)) ∙ bind-got _ refl
-tail-got (v ∷ vs) c ln k p R a b l =
-    bind-got _ (bind-got _ (frame-got ln (row .tag) (spellValues (row .fields) (row .listed v)) (length-fits row row-lawful v (R .0))) ∙ bind-got _ refl
-    ∙ test-got _ _ _ _ (lt-ltb k mostRows (omega arith)) ∙ bind-got _ (bind-got _ (fixedIn-got ln row row-lawful v (R .0)) ∙ test-got _ _ _ _ (lt-ltb p (v .mass) (R .1))))
-    ∙ bind-got _ (tail-got vs c (ln + 1) (k + 1) (v .mass) (R .2) (omega arith) (omega arith) l)
+unfolding rowFrames Rising tail after closed
+tail-got [] c ln k p R a b l = bind-got _ (condition-frame ln k p (spellCondition c) (omega arith) (l .long) ∙ bind-got _ (inside-got ln c l)) ∙ bind-got _ refl
+tail-got (v ∷ vs) c ln k p R a b l = tail-row v (rowFrames vs c) ln k p (R .0) (R .1) (omega arith) ∙ bind-got _ (tail-got vs c (ln + 1) (k + 1) (v .mass) (R .2) (omega arith) (omega arith) l)
 
 pub readFrames-got : (r : Reading) → Framed r (frames r) → readFrames (frames r) ≡ got r
-unfolding readFrames shipFrame frames spellBlock
-readFrames-got r F =
-    bind-got _ (bind-got _ (frame-got 1 (ship .tag) (spellValues (ship .fields) (ship .listed (r .ship))) (length-fits ship ship-lawful (r .ship) (F .hull))) ∙ test-got _ _ _ _ refl ∙ fixedIn-got 1 ship ship-lawful (r .ship) (F .hull))
-    ∙ bind-got _ (tail-got (r .rows) (r .condition) 2 0 0 (F .rising) (omega (arith, F .few)) (omega (arith, F .many)) (F .loaded))
+unfolding readFrames frames
+readFrames-got r F = bind-got _ (ship-got 1 (r .ship) (F .hull)) ∙ bind-got _ (tail-got (r .rows) (r .condition) 2 0 0 (F .rising) (omega (arith, F .few)) (omega (arith, F .many)) (F .loaded))
 
 -- What is spelled is lines.
 Lines-rows : (vs : List Row) (c : Condition) (p : ℕ) → Rising p vs → ConditionLimits c → Lines (rowFrames vs c)

@@ -1,14 +1,15 @@
 -- Any number of steps beyond the length walks the same: so the entries have equations with no count of steps, which code can follow.
-use mathlib.Core.Path.{_≡_, refl, ap}
-use mathlib.Core.List.{List, [], _∷_}
+use mathlib.Core.Path.{_≡_, refl, ap, _∙_}
+use mathlib.Core.List.{List, [], _∷_, _++_}
 use Prim.Native.Nat.{ℕ, zero, suc, _+_, _-_, _≤_, _<_}
 use native.Mathlib.Omega.{arith}
 use lib.ListN.{length}
-use Rattle.rules.specs.Layout.{end, leaf, group, leaves}
+use Rattle.rules.specs.Blocks.{block}
+use Rattle.rules.specs.Layout.{end, leaf, group}
 use Rattle.rules.specs.Answers.{got, _>>=_}
 use Rattle.rules.specs.Walk.{Head, header, Block, one, nest, blockAt, Walk, step, walk, entries}
-use Rattle.rules.proofs.Answers.{bind-cong}
-use Rattle.rules.proofs.Heads.{header-less}
+use Rattle.rules.proofs.Answers.{bind-got, bind-cong}
+use Rattle.rules.proofs.Heads.{length-block, header-got, header-less}
 
 -- Two walks that agree on what is shorter than m.
 abbrev Same : ℕ → Walk → Walk → Type 0
@@ -41,3 +42,8 @@ module _ (ln d n at : ℕ) where
       bind-cong _ _ _ (λ h eh. bind-cong _ _ _ (λ b eb.
       let p = header-less ln at (x ∷ s) h eh in
       step-same ln (suc (length s)) (walk ln (suc (length s))) (entries ln) (λ d n at s′ l. walk-same ln (suc (length s)) (suc (length s′)) (suc (length s′)) (omega arith) (omega arith) d n at s′ (omega arith)) d n at h b (omega arith) (omega arith)))
+
+  -- At a block that is spelled.
+  pub entries-block : (t : ℕ) (body rest : List ℕ) → length body < 65_536
+      → entries ln d n at (block t body ++ rest) ≡ (blockAt ln d n at t body >>= λ b. step ln (entries ln) d n at (record { tag = t; body = body; rest = rest }) b)
+  entries-block t body rest l = entries-some (block t body ++ rest) (rw (length-block t body rest) (omega arith)) ∙ bind-got _ (header-got ln at t body rest l)

@@ -1,7 +1,7 @@
 -- Laws of numbers in bytes, at any width: a number and its bytes determine each other; and of numbers below zero in 64 bits.
 use mathlib.Core.Path.{_≡_, refl, ap}
 use mathlib.Core.List.{List, [], _∷_, _++_}
-use Prim.Native.Nat.{ℕ, zero, suc, _+_, _*_, _^_, _/_, _%_, _≤_, _<_}
+use Prim.Native.Nat.{ℕ, zero, suc, _+_, _^_, _%_, _<_}
 use native.Mathlib.Omega.{arith}
 use native.Mathlib.Nat.{mod-lt, div-add-mod, mul-add-div-right, mul-add-mod-self-right, div-eq-of-lt, div-lt-iff-lt-mul, mod-eq-of-lt, mul-le-mul-right, add-zero}
 use lib.ListN.{length, take, drop}

@@ -12,10 +12,20 @@ use Rattle.rules.specs.Curve.{Loaded}
 use Rattle.rules.specs.Roll.{b, C, q, period, longestPeriod, X1, X2, K, S, keelIndex, k, x1, x2, s, p, r, rOf, phi1, notJudged}
 use Rattle.rules.proofs.Signed.{Le, add≡, sub≡, up-neg, dn-neg, up-mull, dn-mull}
 use Rattle.rules.proofs.Rounding.{CeilingZ, ceil-is, ceiling-least, ceilZ-is, ceilingZ-least, ceilingZ-from}
-use Rattle.rules.proofs.Tables.{table-within}
+use Rattle.rules.proofs.Tables.{table-within, X1-is, X2-is, S-is}
+use Rattle.rules.proofs.Divisions.{x1-up, x2-up, s-up}
 use Rattle.rules.proofs.Roll.{Period, period-is, Roll, greatestRoll, phi1-is}
 
 -- ---- the factors, of any loading
+pub x1-range : (c : Loaded) → (800 ≤ x1 c) × (x1 c ≤ 1000)
+x1-range c = rw (x1-up c (table Way.up X1) X1-is) (table-within Way.up 800 1000 X1 refl refl refl (b c))
+
+pub x2-range : (c : Loaded) → (750 ≤ x2 c) × (x2 c ≤ 1000)
+x2-range c = rw (x2-up c (table Way.up X2) X2-is) (table-within Way.up 750 1000 X2 refl refl refl (c .weather .cb))
+
+pub s-range : (c : Loaded) → (350 ≤ s c) × (s c ≤ 1000)
+s-range c = rw (s-up c (table Way.up S) S-is) (table-within Way.up 350 1000 S refl refl refl (period c))
+
 pub k-range : (c : Loaded) → (700 ≤ k c) × (k c ≤ 1000)
 unfolding k
 k-range c = go (eqb (c .ship .bilge) 1)
@@ -23,18 +33,6 @@ k-range c = go (eqb (c .ship .bilge) 1)
     go : (sharp : Bool) → (700 ≤ elim sharp [ true ↦ 700 | false ↦ table Way.up K (keelIndex (c .ship)) ]) × (elim sharp [ true ↦ 700 | false ↦ table Way.up K (keelIndex (c .ship)) ] ≤ 1000)
     go true = (omega arith, omega arith)
     go false = table-within Way.up 700 1000 K refl refl refl (keelIndex (c .ship))
-
-pub x1-range : (c : Loaded) → (800 ≤ x1 c) × (x1 c ≤ 1000)
-unfolding x1
-x1-range c = table-within Way.up 800 1000 X1 refl refl refl (b c)
-
-pub x2-range : (c : Loaded) → (750 ≤ x2 c) × (x2 c ≤ 1000)
-unfolding x2
-x2-range c = table-within Way.up 750 1000 X2 refl refl refl (c .weather .cb)
-
-pub s-range : (c : Loaded) → (350 ≤ s c) × (s c ≤ 1000)
-unfolding s
-s-range c = table-within Way.up 350 1000 S refl refl refl (period c)
 
 pub p-range : (c : Loaded) → p c ≤ 1000
 unfolding p

@@ -11,6 +11,7 @@ use borrow.Author.Tests.{ltb-true, leb-true, lt-ltb, le-ltb}
 use Rattle.rules.specs.Numbers.{full}
 use Rattle.rules.specs.Rounding.{Way, up, Point, gap, span, line, onward, table}
 use Rattle.rules.specs.Roll.{X1, X2, K, S}
+use Rattle.rules.proofs.Fields.{both-true}
 use Rattle.rules.proofs.Rounding.{Rounded, rounded-unique}
 use Rattle.rules.proofs.StraightLine.{line-rounded, line-at-first, line-at-second, line-from, line-to}
 
@@ -31,16 +32,12 @@ pub record Linear (way : Way) (ps : List Point) (f : ℕ → ℕ) : Type 0 where
 none : _≡_ {A = Bool} false true → ⊥
 none e = let z : _≡_ {A = ℕ} 0 1 = cc in omega arith
 
-both : (a b : Bool) → a && b ≡ true → (a ≡ true) × (b ≡ true)
-both true b e = (refl, e)
-both false b e = let z : _≡_ {A = ℕ} 0 1 = cc in absurd (omega arith)
-
 rise : (p q : Point) (ps : List Point) → inOrder (p ∷ q ∷ ps) ≡ true → p .place < q .place
-rise p q ps h = ltb-true (p .place) (q .place) (both (ltb (p .place) (q .place)) (inOrder (q ∷ ps)) h .0)
+rise p q ps h = ltb-true (p .place) (q .place) (both-true (ltb (p .place) (q .place)) (inOrder (q ∷ ps)) h .0)
 
 rest : (p : Point) (ps : List Point) → inOrder (p ∷ ps) ≡ true → inOrder ps ≡ true
 rest p [] h = refl
-rest p (q ∷ ps) h = both (ltb (p .place) (q .place)) (inOrder (q ∷ ps)) h .1
+rest p (q ∷ ps) h = both-true (ltb (p .place) (q .place)) (inOrder (q ∷ ps)) h .1
 
 from : (a ps : List Point) → inOrder (a ++ ps) ≡ true → inOrder ps ≡ true
 from [] ps h = h
@@ -128,8 +125,8 @@ module _ (way : Way) (low high : ℕ) where
 
   head : (p : Point) (ps : List Point) → valuesWithin low high (p ∷ ps) ≡ true → Inside (p .value) × (valuesWithin low high ps ≡ true)
   head p ps v =
-      let a = both (leb low (p .value) && leb (p .value) high) (valuesWithin low high ps) v in
-      let b = both (leb low (p .value)) (leb (p .value) high) (a .0) in
+      let a = both-true (leb low (p .value) && leb (p .value) high) (valuesWithin low high ps) v in
+      let b = both-true (leb low (p .value)) (leb (p .value) high) (a .0) in
       ((leb-true low (p .value) (b .0), leb-true (p .value) high (b .1)), a .1)
 
   onward-within : (p : Point) (ps : List Point) → inOrder (p ∷ ps) ≡ true → valuesWithin low high (p ∷ ps) ≡ true → (x : ℕ) → p .place ≤ x → Inside (onward way p ps x)

@@ -2,20 +2,21 @@
 use mathlib.Core.Path.{_≡_, refl, ap, ap₂, sym, _∙_}
 use mathlib.Core.Bool.{Bool, true, false, cond}
 use mathlib.Core.List.{List, [], _∷_, _++_}
-use Prim.Native.Nat.{ℕ, zero, suc, _+_, _-_, max, _≤_, _<_}
+use Prim.Native.Nat.{ℕ, zero, suc, _+_, _-_, _≤_, _<_}
 use native.Mathlib.Omega.{arith}
 use lib.ListN.{length}
 use lib.Dec.{ltb, eqb}
 use borrow.Author.Tests.{ltb-true, eqb-true, lt-ltb}
 use Rattle.rules.specs.Numbers.{Bytes, full}
-use Rattle.rules.specs.Blocks.{block, spellValues, ok, spellBlock, item, tank, entry, groupTag}
+use Rattle.rules.specs.Blocks.{block, spellValues, ok, spellBlock, Load, item, tank, Values, entry, groupTag}
 use Rattle.rules.specs.Layout.{Entries, end, leaf, group, spell, leaves, depth, some, Good}
-use Rattle.rules.specs.Answers.{Ans, refused, got, _>>=_}
-use Rattle.rules.specs.Walk.{Head, header, Tag, load, nested, tagOf, Block, one, nest, begun, blockAt, Walk, step, walk}
+use Rattle.rules.specs.Answers.{refused, got}
+use Rattle.rules.specs.Walk.{Head, Tag, load, nested, tagOf, Block, one, nest, begun, blockAt, Walk, step, walk, entries}
 use Rattle.rules.proofs.Numbers.{Bytes-append}
 use Rattle.rules.proofs.Answers.{refused-got, bind-inv, test-inv, bind-got, test-got}
 use Rattle.rules.proofs.Fields.{entry-lawful}
-use Rattle.rules.proofs.Heads.{length-block, Bytes-block, Bytes-fixed, header-sound, header-got, fixed-sound, fixed-got}
+use Rattle.rules.proofs.Heads.{length-block, Bytes-block, Bytes-fixed, header-sound, fixed-sound, fixed-got}
+use Rattle.rules.proofs.Fuel.{entries-none, entries-block}
 
 -- ---- what is spelled
 -- A group is empty when its bytes are.
@@ -25,7 +26,7 @@ full-spell end = refl
 full-spell (leaf k v r) = refl
 full-spell (group g r) = refl
 
-pub length-leaf : (k : _) (v : _) (r : Entries) → length (spell (leaf k v r)) ≡ 3 + length (spellValues (entry k .fields) (entry k .listed v)) + length (spell r)
+pub length-leaf : (k : Load) (v : Values k) (r : Entries) → length (spell (leaf k v r)) ≡ 3 + length (spellValues (entry k .fields) (entry k .listed v)) + length (spell r)
 unfolding spell spellBlock
 length-leaf k v r = length-block (entry k .tag) (spellValues (entry k .fields) (entry k .listed v)) (spell r)
 
@@ -73,6 +74,14 @@ module _ (ln : ℕ) where
       go false false true p q r e = let z : nested ≡ x = cc in rw (← z) (sym (eqb-true _ _ r))
       go false false false p q r e = refused-got e
 
+  begun-nested : (d n at : ℕ) (body : List ℕ) (b : Block) → begun ln d n at body nested ≡ got b → (nest ≡ b) × (0 < d) × (full body ≡ true)
+  unfolding begun
+  begun-nested d n at body b e =
+      let a = test-inv _ _ _ _ _ e in
+      let f = test-inv _ _ _ _ _ (a .1) in
+      let q : nest ≡ b = cc in
+      (q, ltb-true 0 d (a .0), f .0)
+
   block-sound : (d n at : ℕ) (h : Head) (b : Block) → Bytes (h .body) → blockAt ln d n at (h .tag) (h .body) ≡ got b → Told d n h b
   unfolding blockAt begun spellBlock
   block-sound d n at h b B e = let a = bind-inv _ _ e in go (a .0) (tagOf-sound at (h .tag) (a .0) (a .1)) (a .2)
@@ -83,11 +92,16 @@ module _ (ln : ℕ) where
           let v = fixed-sound ln at (entry k) (entry-lawful k) (ltb 0 n) (h .body) (a .0) B (a .1) in
           let q : one k (a .0) ≡ b = cc in
           rw (← q) (ap₂ block c (v .0), ltb-true 0 n (v .1), v .2)
-      go nested c e =
-          let a = test-inv _ _ _ _ _ e in
-          let f = test-inv _ _ _ _ _ (a .1) in
-          let q : nest ≡ b = cc in
-          rw (← q) (c, ltb-true 0 d (a .0), f .0)
+      go nested c e = let g = begun-nested d n at (h .body) b e in rw (← (g .0)) (c, g .1, g .2)
+
+  -- A block that passes as a group is one, and whatever else it held it would pass.
+  pub nest-inv : (d n at t : ℕ) (body : List ℕ) → blockAt ln d n at t body ≡ got nest → (groupTag ≡ t) × (0 < d) × (full body ≡ true)
+  unfolding blockAt begun
+  nest-inv d n at t body e = let a = bind-inv _ _ e in go (a .0) (tagOf-sound at t (a .0) (a .1)) (a .2)
+    where
+      go : (x : Tag) → code x ≡ t → begun ln d n at body x ≡ got nest → (groupTag ≡ t) × (0 < d) × (full body ≡ true)
+      go (load k) c e = absurd (let v = bind-inv _ _ e in let z : _≡_ {A = ℕ} 0 1 = cc in omega arith)
+      go nested c e = let g = begun-nested d n at body nest e in (c, g .1, g .2)
 
   step-sound : (w : Walk) → Sound w → (d n at : ℕ) (h : Head) (b : Block) (F : Entries) → Bytes (h .body) → Bytes (h .rest) → Told d n h b → step ln w d n at h b ≡ got F
       → Stands d n (block (h .tag) (h .body) ++ h .rest) F
@@ -110,7 +124,7 @@ module _ (ln : ℕ) where
         many = omega (arith, g .many, r .many);
       })
 
-  pub walk-sound : (f : ℕ) → Sound (walk ln f)
+  walk-sound : (f : ℕ) → Sound (walk ln f)
   unfolding walk spell Good depth leaves
   walk-sound zero d n at s F B e = refused-got e
   walk-sound (suc f) d n at [] F B e = let q : end ≡ F = cc in rw (← q) (record { spells = refl; good = tt; deep = omega arith; many = omega arith })
@@ -121,6 +135,10 @@ module _ (ln : ℕ) where
       let p = step-sound (walk ln f) (walk-sound f) d n at (a .0) (b .0) F (h .1) (h .2) (block-sound d n at (a .0) (b .0) (h .1) (b .1)) (b .2) in
       record { spells = p .spells ∙ h .0; good = p .good; deep = p .deep; many = p .many }
 
+  pub entries-sound : Sound (entries ln)
+  unfolding entries
+  entries-sound d n at s = walk-sound (suc (length s)) d n at s
+
   -- ---- complete
   tagOf-got : (at : ℕ) (x : Tag) → tagOf ln at (code x) ≡ got x
   unfolding tagOf
@@ -128,29 +146,25 @@ module _ (ln : ℕ) where
   tagOf-got at (load tank) = refl
   tagOf-got at nested = refl
 
-  -- The walk at the end, and at a block that is spelled.
-  walk-none : (f d n at : ℕ) → walk ln (suc f) d n at [] ≡ got end
-  unfolding walk
-  walk-none f d n at = refl
+  -- An entry within its limits, and a group with something in it, pass their tests.
+  pub entry-passes : (d n at : ℕ) (k : Load) (v : Values k) → 0 < n → ok (entry k) v ≡ true → blockAt ln d n at (entry k .tag) (spellValues (entry k .fields) (entry k .listed v)) ≡ got (one k v)
+  unfolding blockAt begun
+  entry-passes d n at k v h e = bind-got _ (tagOf-got at (load k)) ∙ bind-got _ (fixed-got ln at (entry k) (entry-lawful k) (ltb 0 n) v (lt-ltb 0 n h) e)
 
-  walk-block : (f d n at t : ℕ) (body rest : List ℕ) → length body < 65_536
-      → walk ln (suc f) d n at (block t body ++ rest) ≡ (blockAt ln d n at t body >>= step ln (walk ln f) d n at (record { tag = t; body = body; rest = rest }))
-  unfolding walk block
-  walk-block f d n at t body rest l = bind-got (λ h. blockAt ln d n at (h .tag) (h .body) >>= step ln (walk ln f) d n at h) (header-got ln at t body rest l)
+  pub group-passes : (d n at : ℕ) (body : List ℕ) → 0 < d → full body ≡ true → blockAt ln d n at groupTag body ≡ got nest
+  unfolding blockAt begun
+  group-passes d n at body h e = bind-got _ (tagOf-got at nested) ∙ test-got _ _ _ _ (lt-ltb 0 d h) ∙ test-got _ _ _ _ e
 
-  pub walk-got : (F : Entries) (f d n at : ℕ) → Good F → depth F ≤ d → leaves F ≤ n → length (spell F) < 65_536 → length (spell F) < f → walk ln f d n at (spell F) ≡ got F
-  unfolding step blockAt begun spell spellBlock Good depth leaves
-  walk-got F zero d n at G D N l m = absurd (omega arith)
-  walk-got end (suc f) d n at G D N l m = walk-none f d n at
-  walk-got (leaf k v r) (suc f) d n at G D N l m =
+  pub entries-got : (F : Entries) (d n at : ℕ) → Good F → depth F ≤ d → leaves F ≤ n → length (spell F) < 65_536 → entries ln d n at (spell F) ≡ got F
+  unfolding step spell spellBlock Good depth leaves
+  entries-got end d n at G D N l = entries-none ln d n at
+  entries-got (leaf k v r) d n at G D N l =
       let body : List ℕ = spellValues (entry k .fields) (entry k .listed v) in
       let L = length-leaf k v r in
-      walk-block f d n at (entry k .tag) body (spell r) (omega arith)
-      ∙ bind-got _ (bind-got _ (tagOf-got at (load k)) ∙ bind-got _ (fixed-got ln at (entry k) (entry-lawful k) (ltb 0 n) v (lt-ltb 0 n (omega arith)) (G .0)))
-      ∙ bind-got _ (walk-got r f d (n - 1) (at + 3 + length body) (G .1) D (omega arith) (omega arith) (omega arith))
-  walk-got (group g r) (suc f) d n at G D N l m =
+      entries-block ln d n at (entry k .tag) body (spell r) (omega arith) ∙ bind-got _ (entry-passes d n at k v (omega arith) (G .0))
+      ∙ bind-got _ (entries-got r d (n - 1) (at + 3 + length body) (G .1) D (omega arith) (omega arith))
+  entries-got (group g r) d n at G D N l =
       let L = length-group g r in
-      walk-block f d n at groupTag (spell g) (spell r) (omega arith)
-      ∙ bind-got _ (bind-got _ (tagOf-got at nested) ∙ test-got _ _ _ _ (lt-ltb 0 d (omega arith)) ∙ test-got _ _ _ _ (full-spell g ∙ G .0))
-      ∙ bind-got _ (walk-got g f (d - 1) n (at + 3) (G .1) (omega arith) (omega arith) (omega arith) (omega arith))
-      ∙ bind-got _ (walk-got r f d (n - leaves g) (at + 3 + length (spell g)) (G .2) (omega arith) (omega arith) (omega arith) (omega arith))
+      entries-block ln d n at groupTag (spell g) (spell r) (omega arith) ∙ bind-got _ (group-passes d n at (spell g) (omega arith) (full-spell g ∙ G .0))
+      ∙ bind-got _ (entries-got g (d - 1) n (at + 3) (G .1) (omega arith) (omega arith) (omega arith))
+      ∙ bind-got _ (entries-got r d (n - leaves g) (at + 3 + length (spell g)) (G .2) (omega arith) (omega arith) (omega arith))

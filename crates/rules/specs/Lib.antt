@@ -5,7 +5,11 @@ pub mod Blocks
 pub mod Layout
 pub mod Answers
 pub mod Walk
+pub mod Parts
+pub mod Places
+pub mod Met
 pub mod Loading
+pub mod Leaves
 pub mod Curve
 pub mod Criteria
 pub mod Roll

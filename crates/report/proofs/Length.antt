@@ -1,0 +1,35 @@
+-- 'The report is one frame and LF, 209 characters', whatever it says: eight verdicts and eleven figures make a body of 0065 bytes.
+use Prim.Native.Nat.{ℕ, _*_}
+use mathlib.Core.Path.{_≡_, refl, _∙_}
+use mathlib.Core.List.{List, [], _∷_, map}
+use native.Mathlib.Omega.{arith}
+use lib.IntN.{ℤ}
+use lib.ListN.{length, length-append}
+use Rattle.rules.specs.Numbers.{digits, twos}
+use Rattle.rules.specs.Text.{LF, hex}
+use Rattle.rules.specs.Blocks.{block}
+use Rattle.rules.specs.Report.{concat, reportTag, reportBody, reportLine, reportLength}
+use Rattle.rules.proofs.Numbers.{length-digits}
+use Rattle.report.proofs.Parts.{concat-length}
+
+pub hex-length : (s : List ℕ) → length (hex s) ≡ 2 * length s
+unfolding hex
+hex-length [] = refl
+hex-length (b ∷ s) = omega (arith, hex-length s)
+
+module _ (number line offset : ℕ) (verdicts : List ℕ) (figures : List ℤ) (eight : length verdicts ≡ 8) (eleven : length figures ≡ 11) where
+  pub body-length : length (reportBody number line offset verdicts figures) ≡ 0x65
+  unfolding reportBody digits
+  body-length =
+      let f : length (concat (map (λ z. digits 8 (twos z)) figures)) ≡ 8 * length figures = concat-length (λ z. digits 8 (twos z)) 8 (λ z. length-digits 8 (twos z)) figures in
+      simp length-append (omega arith)
+
+  frame-length : length (block reportTag (reportBody number line offset verdicts figures)) ≡ 104
+  unfolding block digits
+  frame-length = omega (arith, body-length)
+
+  pub report-length : length (reportLine number line offset verdicts figures) ≡ reportLength
+  unfolding reportLine
+  report-length =
+      length-append (hex (block reportTag (reportBody number line offset verdicts figures))) (LF ∷ [])
+      ∙ omega (arith, hex-length (block reportTag (reportBody number line offset verdicts figures)), frame-length)

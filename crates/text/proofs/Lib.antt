@@ -1,0 +1,5 @@
+pub mod Digits
+pub mod Decoded
+pub mod Ended
+pub mod Laws
+pub mod Unique
