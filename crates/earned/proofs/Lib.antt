@@ -9,3 +9,4 @@ pub mod Finer
 pub mod Eighth
 pub mod Upright
 pub mod Exactly
+pub mod Counterexample

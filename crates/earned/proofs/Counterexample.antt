@@ -1,0 +1,100 @@
+-- What the condition of criterion 8's theorem excludes: a text that passes all eight with a net of +23,824,000, and whose exact b - a is below zero. Its curve lies below -lw2 from 4.8 degrees to the start.
+use mathlib.Core.Path.{_≡_, refl, ap, sym, _∙_}
+use mathlib.Core.Bool.{false}
+use mathlib.Core.List.{List, [], _∷_}
+use Prim.Native.Nat.{ℕ, _+_, _*_}
+use native.Mathlib.Omega.{arith}
+use lib.ListN.{replicate}
+use lib.IntN.{ℤ, pos, negsuc, negℤ, _+ℤ_, _-ℤ_, _*ℤ_}
+use Rattle.rules.specs.Blocks.{Row, item}
+use Rattle.rules.specs.Layout.{Reading, end, leaf}
+use Rattle.rules.specs.Answers.{got}
+use Rattle.rules.specs.Walk.{read}
+use Rattle.rules.specs.Answer.{answered}
+use Rattle.rules.specs.Curve.{Loaded, loaded, y}
+use Rattle.rules.specs.Criteria.{lw1, phi0}
+use Rattle.rules.specs.Roll.{phi1, start, farthest, e, net, noGust}
+use Rattle.rules.specs.Report.{pass, judgement}
+use Rattle.rules.proofs.Signed.{up, dn, Le, eq!, add≡, diff≡}
+use Rattle.rules.proofs.Cases.{lines}
+use Rattle.earned.specs.Gust.{yBy, unitsBy, phi0By, startBy, eBy, netBy, Exactly, NowhereBelow}
+use Rattle.earned.proofs.Eighth.{startPiece, endPiece, pieces}
+use Rattle.earned.proofs.Exactly.{heel-at, heel-meets, end-far}
+
+abbrev pub text : List ℕ
+text = lines (
+    "A1000D0001D4C0000075300000000000"
+    ∷ "A2002201C9C3802EE043F80000041F0984124B173D1C98218726422ABB2EB1320A350737FB"
+    ∷ "A2002202625A002EE043F80000041F0984124B173D1C98218726422ABB2EB1320A350737FB"
+    ∷ "A30018C1000C000222E02328025801C2012CC2000601C9C3803E80"
+    ∷ [])
+
+abbrev rowOf : ℕ → Row
+rowOf w = record { mass = w; draught = 12_000; km = 17_400; kn = 0 ∷ 1_055 ∷ 2_436 ∷ 4_683 ∷ 5_949 ∷ 7_320 ∷ 8_583 ∷ 9_794 ∷ 10_939 ∷ 11_953 ∷ 12_810 ∷ 13_575 ∷ 14_331 ∷ [] }
+
+abbrev pub reading : Reading
+reading = record {
+  ship = record { hullLength = 120_000; breadth = 30_000; keelArea = 0; bilge = 0 };
+  rows = rowOf 30_000_000 ∷ rowOf 40_000_000 ∷ [];
+  condition = record {
+    weather = record { windArea = 140_000; z = 9_000; cb = 600; flooding = 450; deckEdge = 300 };
+    load = leaf item (record { mass = 30_000_000; centre = 16_000 }) end;
+  };
+}
+
+pub reads : read text ≡ got reading
+unfolding read
+reads = refl
+
+-- All eight pass; the last figure is the net.
+pub judges : answered text ≡ got (record {
+  verdicts = replicate 8 pass;
+  figures = pos 30_000_000 ∷ pos 16_000 ∷ pos 1_400 ∷ pos 593_090_000_000 ∷ pos 617_700_000_000 ∷ pos 1_210_790_000_000 ∷ pos 3_271_800_000 ∷ pos 400 ∷ pos 132 ∷ pos 187 ∷ pos 23_824_000 ∷ [];
+})
+unfolding answered
+judges = refl
+
+-- ---- the exact figure: 22,107 parts of a tenth, at which the curve has lw1 exactly
+abbrev pub loading : Loaded
+loading = loaded reading
+
+abbrev q : ℕ
+q = 22_107
+
+begins : y loading (pos 0) ≡ pos 0
+unfolding loaded judgement
+begins = refl
+
+gusty : noGust loading ≡ false
+unfolding loaded judgement
+gusty = refl
+
+-- phi0 lies 12,683 parts beyond 13.1 degrees; e is the flooding angle, 45 degrees.
+heel : phi0By q loading ≡ q * 131 + 12_683
+unfolding loaded judgement
+heel = heel-at q (omega arith) loading begins gusty 131 12_683 9_424 refl refl refl
+
+last : eBy q loading ≡ q * farthest loading
+unfolding loaded judgement
+last = end-far q (omega arith) loading begins gusty refl
+
+pub exactly : Exactly q loading
+unfolding loaded judgement
+exactly = record { heel = heel-meets q (omega arith) loading begins gusty 131 12_683 9_424 refl refl refl; end = λ h. absurd (omega (arith, last)) }
+
+from-start : startBy q loading ≡ pos q *ℤ start loading +ℤ pos 12_683
+unfolding startBy loaded judgement
+from-start = ap (λ (x : ℕ). pos x -ℤ pos (q * phi1 loading)) heel
+
+-- -32,894,216,979,796,000 / 22,107² is -67,306,953.
+pub b-less-a : netBy q loading ≡ negℤ (pos 32_894_216_979_796_000)
+unfolding loaded judgement
+b-less-a = go (netBy q loading) (startPiece loading 9_424 12_683) (pos (q * q) *ℤ net loading +ℤ endPiece loading q 0) (pieces q (omega arith) loading begins 12_683 9_424 0 506 refl from-start last refl (omega arith))
+  where
+    go : (x a b : ℤ) → x +ℤ a ≡ b → x ≡ b -ℤ a
+    go x a b h = eq! x (b -ℤ a) (omega (arith, add≡ x a, diff≡ b a, ap up h, ap dn h))
+
+-- 5 degrees, for one, is within the reach of the windward side.
+pub excluded : NowhereBelow loading → ⊥
+unfolding loaded judgement
+excluded h = omega (arith, h 50 (omega arith))
