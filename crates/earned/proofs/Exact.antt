@@ -1,15 +1,15 @@
 -- The exact values of a reading are 01's fractions before they are rounded, and lie behind the numbers that the judgement uses.
 use mathlib.Core.Path.{_≡_, refl, ap, sym, _∙_, subst}
-use mathlib.Core.Bool.{Bool, true, false, _&&_}
+use mathlib.Core.Bool.{Bool, true, false}
 use mathlib.Core.List.{List, [], _∷_, _++_, map}
-use Prim.Native.Nat.{ℕ, zero, suc, _+_, _-_, _*_, _≤_, _<_, max}
+use Prim.Native.Nat.{ℕ, zero, suc, _+_, _-_, _*_, _≤_, _<_}
 use native.Mathlib.Omega.{arith}
 use native.Mathlib.Nat.{mul-le-mul-right, mul-pos, max-eq-left, sub-self, mul-zero}
 use native.Mathlib.Decide.{decLe}
 use lib.Dec.{leb, ltb}
 use lib.ListN.{length, getD}
 use borrow.Author.Tests.{leb-true, ltb-true, ltb-false, lt-ltb, le-ltb}
-use Rattle.rules.specs.Rounding.{down, line, onward, table, gap, span}
+use Rattle.rules.specs.Rounding.{down, line, onward, table, span}
 use Rattle.rules.specs.Blocks.{Row}
 use Rattle.rules.specs.Layout.{Reading, Rising, Limits}
 use Rattle.rules.specs.Answers.{got, test}
@@ -17,10 +17,10 @@ use Rattle.rules.specs.Loading.{total, moment, freeSurface, correctedKG, entrie
 use Rattle.rules.specs.Curve.{between, stations, knAt, loadedAt, loaded}
 use Rattle.rules.specs.Criteria.{lw1}
 use Rattle.rules.proofs.Answers.{test-inv}
+use Rattle.rules.proofs.Fields.{both-true}
 use Rattle.rules.proofs.StraightLine.{line-rounded}
 use Rattle.rules.proofs.Divisions.{kg-up, lw1-up}
-use Rattle.earned.specs.Order.{Hull, Better}
-use Rattle.earned.specs.Verdicts.{used, Behind}
+use Rattle.earned.specs.Verdicts.{Behind}
 use Rattle.earned.specs.Exact.{cell, gapFrom, spanFrom, gapAt, spanAt, weight, over, column, exact, Straight, Fractions}
 
 -- ---- a value of the table is rounded down from the exact one
@@ -105,11 +105,7 @@ module _ (f : Row → ℕ) (w : ℕ) where
 module _ (R : Reading) (limits : Limits R) (judged : weighed R ≡ got tt) where
   floats : firstMass (R .rows) ≤ weight R
   unfolding weighed inTable
-  floats = leb-true (firstMass (R .rows)) (weight R) (first (leb (firstMass (R .rows)) (weight R)) (leb (weight R) (lastMass (R .rows))) (test-inv (inTable (R .rows) (weight R)) 7 0 0 (test (leb (correctedKG (entriesOf R)) greatestKG) 8 0 0) judged .0))
-    where
-      first : (a b : Bool) → a && b ≡ true → a ≡ true
-      first true b e = refl
-      first false b e = e
+  floats = leb-true (firstMass (R .rows)) (weight R) (both-true (leb (firstMass (R .rows)) (weight R)) (leb (weight R) (lastMass (R .rows))) (test-inv (inTable (R .rows) (weight R)) 7 0 0 (test (leb (correctedKG (entriesOf R)) greatestKG) 8 0 0) judged .0) .0)
 
   some : 0 < weight R
   unfolding firstMass Rising

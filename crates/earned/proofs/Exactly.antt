@@ -5,16 +5,15 @@ use Prim.Native.Nat.{ℕ, zero, suc, _+_, _-_, _*_, _≤_, _<_}
 use native.Mathlib.Omega.{arith}
 use native.Mathlib.Nat.{mul-le-mul-left, mul-pos}
 use native.Mathlib.Decide.{decLe, ℕ-discrete}
-use lib.IntN.{ℤ, pos, +ℤ-comm, _+ℤ_, _-ℤ_, _*ℤ_}
-use Rattle.rules.specs.Curve.{Loaded, y, E}
+use lib.IntN.{ℤ, pos, +ℤ-comm, _+ℤ_, _*ℤ_}
+use Rattle.rules.specs.Curve.{Loaded, y}
 use Rattle.rules.specs.Criteria.{lw1, lw2, units, phi0}
-use Rattle.rules.specs.Roll.{farthest, u, e, noGust}
-use Rattle.rules.proofs.Signed.{up, dn, Le, Lt, eq!, add≡, diff≡}
-use Rattle.rules.proofs.Searches.{Reaches, Stays}
+use Rattle.rules.specs.Roll.{farthest, e, noGust}
+use Rattle.rules.proofs.Signed.{up, dn, Le, Lt, eq! }
 use Rattle.rules.proofs.Angles.{phi0-is, gust, e-is}
 use Rattle.earned.specs.Gust.{yBy, unitsBy, phi0By, eBy, Exactly}
 use Rattle.earned.proofs.Grid.{linear}
-use Rattle.earned.proofs.Finer.{at, heel-is, heel-to, heel-hit, heel-from, heel-whole, end-is, end-beyond}
+use Rattle.earned.proofs.Finer.{at, heel-is, heel-hit, heel-from, heel-whole, end-is, end-beyond}
 
 -- ---- a straight line through a level, from i of q parts to i + d: it goes on by d steps of b - a
 line-on : (p i d : ℕ) (a b : ℤ) → let x = pos (p + d) *ℤ a +ℤ pos i *ℤ b in let x′ = pos p *ℤ a +ℤ pos (i + d) *ℤ b in up x′ + dn x + (d * up a + d * dn b) ≡ up x + dn x′ + (d * up b + d * dn a)

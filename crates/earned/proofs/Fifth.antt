@@ -7,12 +7,18 @@ use native.Mathlib.Nat.{mul-le-mul-left, le-refl, le-trans}
 use native.Mathlib.Decide.{decLe, ℕ-discrete}
 use lib.Dec.{T, leb, leb→le}
 use lib.ListN.{getD}
-use lib.IntN.{ℤ, pos, subℕ}
+use lib.IntN.{ℤ, subℕ}
+use borrow.Author.Tests.{leb-true, le-leb}
 use Rattle.rules.specs.Rounding.{peak}
-use Rattle.rules.specs.Curve.{fifty, sines, lever}
+use Rattle.rules.specs.Blocks.{Weather, weather, ok, within}
+use Rattle.rules.specs.Curve.{Loaded, fifty, sines, lever, leverZ}
+use Rattle.rules.specs.Criteria.{code, angleOfGreatest, passes5}
+use Rattle.rules.specs.Ranges.{Fair}
 use Rattle.rules.proofs.Signed.{up, dn, sub≡}
+use Rattle.rules.proofs.Fields.{both-true, Limited, limited}
 use Rattle.rules.proofs.Searches.{Peak, peak-is}
-use Rattle.earned.specs.Order.{NoLess, Hull, Better}
+use Rattle.earned.specs.Order.{Hull, Better}
+use Rattle.earned.specs.Verdicts.{used, Behind, passesFifth}
 
 -- ---- the straight-line sine curve does not fall up to 60 degrees: by computing
 abbrev rises : (ℕ → ℕ) → ℕ → Bool
@@ -72,5 +78,14 @@ module _ (m n : ℕ) (h h′ : Hull) (better : Better m n h h′) (same : (i : �
       go : (a a′ b b′ s s′ u u′ : ℕ) → m * a ≡ n * a′ → m * b ≡ n * b′ → m * s + n * u′ ≤ m * u + n * s′ → n * up (subℕ a′ s′) + m * dn (subℕ a s) + (n * dn (subℕ b′ u′) + m * up (subℕ b u)) ≤ n * up (subℕ b′ u′) + m * dn (subℕ b u) + (n * dn (subℕ a′ s′) + m * up (subℕ a s))
       go a a′ b b′ s s′ u u′ p q r = omega (arith, times n a′ s′, times m a s, times n b′ u′, times m b u)
 
-  pub angle-order : 0 < m → (e : ℕ) → e ≤ 600 → peak (lever (h .kn) (h .kg)) 0 e ≤ peak (lever (h′ .kn) (h′ .kg)) 0 e
+  angle-order : 0 < m → (e : ℕ) → e ≤ 600 → peak (lever (h .kn) (h .kg)) 0 e ≤ peak (lever (h′ .kn) (h′ .kg)) 0 e
   angle-order some e l = no-earlier m n some (lever (h .kn) (h .kg)) (lever (h′ .kn) (h′ .kg)) 0 e (λ j k p q. gains j k p (omega arith))
+
+-- ---- the flooding angle is at most 60 degrees
+flooding-to : (c : Weather) → ok weather c ≡ true → c .flooding ≤ 600
+unfolding ok Limited
+flooding-to c h = limited (weather .fields) (weather .listed c) (both-true (within (weather .fields) (weather .listed c)) (weather .further c) h .0) .2 .2 .2 .1
+
+pub fifth : (D : ℕ) → 0 < D → (h : Hull) (c : Loaded) → Fair c → Behind D h c → ((i : ℕ) → getD (h .kn) i 0 ≡ D * getD (c .kn) i 0) → passes5 c ≡ true → passesFifth (c .weather) h ≡ true
+unfolding passes5 angleOfGreatest passesFifth leverZ
+fifth D some h c fair behind same p = le-leb (code .angle) (peak (lever (h .kn) (h .kg)) 0 (c .weather .flooding)) (le-trans (leb-true (code .angle) (peak (lever (c .kn) (c .kg)) 0 (c .weather .flooding)) p) (angle-order D 1 (used c) h behind (λ i. omega (arith, same i)) some (c .weather .flooding) (flooding-to (c .weather) (fair .sky))))

@@ -5,15 +5,16 @@ use Prim.Native.Nat.{ℕ, zero, suc, _+_, _-_, _*_, _/_, _%_, _≤_, _<_}
 use native.Mathlib.Omega.{arith}
 use native.Mathlib.Nat.{mod-lt, div-add-mod, mul-le-mul-left, le-of-mul-le-mul-left}
 use native.Mathlib.Decide.{decLe, ℕ-discrete}
-use lib.IntN.{ℤ, pos, negsuc, ℤ-discrete, _+ℤ_, _-ℤ_, _*ℤ_}
+use lib.IntN.{ℤ, pos, ℤ-discrete, _+ℤ_, _-ℤ_, _*ℤ_}
 use Rattle.rules.specs.Curve.{Loaded, y, E}
 use Rattle.rules.specs.Criteria.{lw1, lw2, units, phi0}
 use Rattle.rules.specs.Roll.{phi1, start, farthest, u, e, noGust}
-use Rattle.rules.proofs.Signed.{up, dn, Le, Lt, eq!, add≡, diff≡, up-mull, dn-mull}
+use Rattle.rules.proofs.Signed.{up, dn, Le, Lt, eq!, diff≡}
 use Rattle.rules.proofs.Searches.{Reaches, reaches-is, Stays, stays-is}
 use Rattle.rules.proofs.Divisions.{lw2-up}
-use Rattle.rules.proofs.Angles.{phi0-is, start-at, start-before, u-is, gust, e-is}
-use Rattle.earned.specs.Gust.{yBy, unitsBy, phi0By, startBy, uBy, eBy}
+use Rattle.rules.proofs.Angles as angles
+use Rattle.rules.proofs.Angles.{phi0-is, start-at, u-is, gust, e-is}
+use Rattle.earned.specs.Gust.{yBy, unitsBy, phi0By, uBy, eBy}
 use Rattle.earned.proofs.Steps.{between}
 use Rattle.earned.proofs.Grid.{linear}
 
@@ -104,29 +105,22 @@ module _ (q : ℕ) (some : 0 < q) (c : Loaded) (upright : y c (pos 0) ≡ pos 0)
       | no k ↦ absurd (omega (arith, heel-hit, before (5_000_000 * lw1 c) (phi0 c) (λ t i. phi0-is c .before t (omega arith) i) (omega (arith, ap up e, ap dn e)) (phi0By q c) (omega arith)))
     ]
 
-    -- So the start lies i of q parts beyond the one used.
-    pub start-within : (i : ℕ) × (p : ℕ) × (p + i ≡ q) × (startBy q c ≡ pos q *ℤ start c +ℤ pos i)
-    unfolding startBy
-    start-within = go (ℤ-discrete (y c (pos (phi0 c))) (units (lw1 c))) (phi0 c) refl
+    -- So the start used is no further to leeward than phi0 less phi1.
+    pub start-before : q * up (start c) + q * phi1 c ≤ phi0By q c + q * dn (start c)
+    start-before = go (ℤ-discrete (y c (pos (phi0 c))) (units (lw1 c))) (phi0 c) refl
       where
-        from-heel : (a i : ℕ) → start c ≡ pos a -ℤ pos (phi1 c) → phi0By q c ≡ q * a + i → pos (phi0By q c) -ℤ pos (q * phi1 c) ≡ pos q *ℤ start c +ℤ pos i
-        from-heel a i z h =
-            let s = pos a -ℤ pos (phi1 c) in
-            rw z (eq! (pos (phi0By q c) -ℤ pos (q * phi1 c)) (pos q *ℤ s +ℤ pos i) (omega (arith, diff≡ (pos (phi0By q c)) (pos (q * phi1 c)), add≡ (pos q *ℤ s) (pos i), up-mull q s, dn-mull q s, ap (λ (k : ℕ). q * k) (diff≡ (pos a) (pos (phi1 c))))))
+        from-heel : (a : ℕ) → start c ≡ pos a -ℤ pos (phi1 c) → q * a ≤ phi0By q c → q * up (start c) + q * phi1 c ≤ phi0By q c + q * dn (start c)
+        from-heel a z h = rw z (omega (arith, ap (λ (k : ℕ). q * k) (diff≡ (pos a) (pos (phi1 c)))))
 
         one-before : (n m : ℕ) → n ≡ suc m → pos n -ℤ pos 1 ≡ pos m
         one-before n m z = eq! (pos n -ℤ pos 1) (pos m) (omega (arith, diff≡ (pos n) (pos 1)))
 
-        go : Dec (y c (pos (phi0 c)) ≡ units (lw1 c)) → (n : ℕ) → phi0 c ≡ n → (i : ℕ) × (p : ℕ) × (p + i ≡ q) × (pos (phi0By q c) -ℤ pos (q * phi1 c) ≡ pos q *ℤ start c +ℤ pos i)
-        go (yes k) n z = (0, q, omega arith, from-heel (phi0 c) 0 (start-at c k) (omega (arith, heel-whole k)))
+        go : Dec (y c (pos (phi0 c)) ≡ units (lw1 c)) → (n : ℕ) → phi0 c ≡ n → q * up (start c) + q * phi1 c ≤ phi0By q c + q * dn (start c)
+        go (yes k) n z = from-heel (phi0 c) (start-at c k) (omega (arith, heel-whole k))
         go (no k) zero z =
             let here : y c (pos (phi0 c)) ≡ pos 0 = ap (λ (t : ℕ). y c (pos t)) z ∙ upright in
             absurd (k (eq! (y c (pos (phi0 c))) (units (lw1 c)) (omega (arith, ap up here, ap dn here, phi0-is c .hit (gust c gusty .0)))))
-        go (no k) (suc m) z =
-            let i = phi0By q c - q * m in
-            let most : q * phi0 c ≡ q * m + q = rw z (omega arith) in
-            let h : phi0By q c ≡ q * m + i = omega (arith, heel-from m z) in
-            (i, q - i, omega (arith, heel-to), from-heel m i (start-before c (gust c gusty .0) k ∙ ap (λ (s : ℤ). s -ℤ pos (phi1 c)) (one-before (phi0 c) m z)) h)
+        go (no k) (suc m) z = from-heel m (angles.start-before c (gust c gusty .0) k ∙ ap (λ (s : ℤ). s -ℤ pos (phi1 c)) (one-before (phi0 c) m z)) (omega (arith, heel-from m z))
 
     -- ---- u
     under-gust : (t : ℕ) → t < u c → Lt (y c (pos t)) (units (lw2 c))

@@ -1,14 +1,14 @@
 -- Areas on a grid: a net area is a sum over its steps, which can be cut anywhere, and the sum over a finer grid is the same, q² times.
 use mathlib.Core.Path.{_≡_, refl, ap, sym, _∙_, subst}
 use mathlib.Core.Bool.{Bool, true, false}
-use Prim.Native.Nat.{ℕ, zero, suc, _+_, _-_, _*_, _≤_, _<_}
+use Prim.Native.Nat.{ℕ, zero, suc, _+_, _-_, _*_, _<_}
 use native.Mathlib.Omega.{arith}
 use native.Mathlib.Nat.{mul-zero}
 use lib.IntN.{ℤ, pos, negsuc, natAbs, _+ℤ_, _-ℤ_, _*ℤ_}
 use lib.Signed.{ltZ}
 use Rattle.rules.specs.Rounding.{sumZ}
 use Rattle.rules.specs.Curve.{area}
-use Rattle.rules.proofs.Signed.{up, dn, Le, Lt, eq!, below, not-below, add≡, diff≡, up-mull, dn-mull}
+use Rattle.rules.proofs.Signed.{up, dn, Le, eq!, not-below, add≡, diff≡, up-mull, dn-mull}
 
 -- The two levers at the ends of a step.
 abbrev pub pair : (ℤ → ℤ) → ℤ → ℤ
@@ -45,6 +45,14 @@ module _ (g : ℤ → ℤ) where
   not-negative (suc n) t h =
       let here = subst (λ (z : ℤ). Le (pos 0) (g z)) (eq! (t +ℤ pos 0) t (omega (arith, add≡ t (pos 0)))) (h 0 (omega arith)) in
       let rest = not-negative n (t +ℤ pos 1) (λ k l. subst (λ (z : ℤ). Le (pos 0) (g z)) (sym (shift t 1 k (suc k) (omega arith))) (h (suc k) (omega arith))) in
+      omega (arith, add≡ (g t) (sumZ g n (t +ℤ pos 1)))
+
+  pub not-positive : (n : ℕ) (t : ℤ) → ((k : ℕ) → k < n → Le (g (t +ℤ pos k)) (pos 0)) → Le (sumZ g n t) (pos 0)
+  unfolding sumZ
+  not-positive zero t h = omega arith
+  not-positive (suc n) t h =
+      let here = subst (λ (z : ℤ). Le (g z) (pos 0)) (eq! (t +ℤ pos 0) t (omega (arith, add≡ t (pos 0)))) (h 0 (omega arith)) in
+      let rest = not-positive n (t +ℤ pos 1) (λ k l. subst (λ (z : ℤ). Le (g z) (pos 0)) (sym (shift t 1 k (suc k) (omega arith))) (h (suc k) (omega arith))) in
       omega (arith, add≡ (g t) (sumZ g n (t +ℤ pos 1)))
 
 -- ---- a net area is a sum

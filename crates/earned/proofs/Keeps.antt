@@ -12,13 +12,13 @@ use lib.Signed.{leZ}
 use borrow.Author.Tests.{leb-true, le-leb}
 use Rattle.rules.specs.Rounding.{peak}
 use Rattle.rules.specs.Blocks.{Weather}
-use Rattle.rules.specs.Curve.{Loaded, leverZ, area}
+use Rattle.rules.specs.Curve.{Loaded, area}
 use Rattle.rules.specs.Criteria as criteria
 use Rattle.rules.specs.Criteria.{code, passes1, passes2, passes3, passes4, passes6, passes7, area1, area2, area3}
-use Rattle.rules.proofs.Signed.{Le, at-least, le-true}
-use Rattle.earned.specs.Order.{NoLess, Hull, Better}
-use Rattle.earned.specs.Verdicts.{Criterion, one, two, three, four, six, seven, curve, greatestLever, phi0, passesOver, passes, used, Behind}
-use Rattle.earned.proofs.Order.{difference, reached, lever-order, area-order, greatest-order, no-later}
+use Rattle.rules.proofs.Signed.{at-least, le-true}
+use Rattle.earned.specs.Order.{NoLess, Hull, Better, finer, curve, Follows}
+use Rattle.earned.specs.Verdicts.{Criterion, one, two, three, four, six, seven, greatestLever, phi0, passesOver, passes, used, Behind}
+use Rattle.earned.proofs.Order.{difference, reached, order}
 
 -- ---- tests
 both : (a b a′ b′ : Bool) → (a ≡ true → a′ ≡ true) → (b ≡ true → b′ ≡ true) → a && b ≡ true → a′ && b′ ≡ true
@@ -31,15 +31,14 @@ less a b n l h = le-leb b n (omega (arith, leb-true a n h))
 
 -- ---- from the denominator D to D′, under one sky
 module _ (m n D D′ : ℕ) (some : 0 < n) (scale : n * D′ ≤ m * D) (c : Weather) (h h′ : Hull) (better : Better m n h h′) where
-  above : (t : ℕ) → NoLess m n (curve h (pos t)) (curve h′ (pos t))
-  unfolding leverZ
-  above = lever-order m n h h′ better
+  follows : Follows m n (curve h) (curve h′)
+  follows = order m n some h h′ better
 
   at-least-so : (l : ℕ) (a b : ℤ) → NoLess m n a b → leZ (pos (D * l)) a ≡ true → leZ (pos (D′ * l)) b ≡ true
   at-least-so l a b k p = le-true (pos (D′ * l)) b (reached m n some (D * l) (D′ * l) a b (omega (arith, mul-le-mul-right l scale)) k (at-least (pos (D * l)) a p))
 
   area-keeps : (l p q : ℕ) → leZ (pos (D * l)) (area (curve h) (pos p) (pos q)) ≡ true → leZ (pos (D′ * l)) (area (curve h′) (pos p) (pos q)) ≡ true
-  area-keeps l p q = at-least-so l (area (curve h) (pos p) (pos q)) (area (curve h′) (pos p) (pos q)) (area-order m n (curve h) (curve h′) above p q)
+  area-keeps l p q = at-least-so l (area (curve h) (pos p) (pos q)) (area (curve h′) (pos p) (pos q)) (follows .areas p q)
 
   greatest-keeps : (e : ℕ) → NoLess m n (greatestLever e h) (greatestLever e h′)
   unfolding greatestLever
@@ -47,11 +46,11 @@ module _ (m n D D′ : ℕ) (some : 0 < n) (scale : n * D′ ≤ m * D) (c : Wea
     where
       go : (b : Bool) → NoLess m n (elim b [ true ↦ pos 0 | false ↦ curve h (pos (peak (λ t. curve h (pos t)) 300 (e - 300))) ]) (elim b [ true ↦ pos 0 | false ↦ curve h′ (pos (peak (λ t. curve h′ (pos t)) 300 (e - 300))) ])
       go true = omega arith
-      go false = greatest-order m n (curve h) (curve h′) above 300 (e - 300)
+      go false = follows .greatest 300 (e - 300)
 
   heel-keeps : (e : ℕ) → phi0 e h′ ≤ phi0 e h
   unfolding phi0
-  heel-keeps e = no-later m n (curve h) (curve h′) above some (5_000_000 * h .lw1) (5_000_000 * h′ .lw1) (omega (arith, better .lw1)) 0 e
+  heel-keeps e = follows .level (5_000_000 * h .lw1) (5_000_000 * h′ .lw1) (omega (arith, better .lw1)) 0 e
 
   pub keeps : (k : Criterion) → passesOver D k c h ≡ true → passesOver D′ k c h′ ≡ true
   unfolding passesOver
@@ -79,10 +78,7 @@ over-one seven c = refl
 pub earned : (D : ℕ) (h : Hull) (c : Loaded) → Behind D h c → (k : Criterion) → passes k c ≡ true → passesOver D k (c .weather) h ≡ true
 earned D h c b k p = keeps D 1 1 D (omega arith) (omega arith) (c .weather) (used c) h b k (rw over-one p)
 
--- ---- the verdict does not depend on the denominator: every number S times as fine gives the same
-abbrev pub finer : ℕ → Hull → Hull
-finer S h = record { kn = map (λ v. S * v) (h .kn); km = S * h .km; kg = S * h .kg; lw1 = S * h .lw1 }
-
+-- ---- the verdict does not depend on the denominator
 getD-finer : (S : ℕ) (l : List ℕ) (i : ℕ) → getD (map (λ v. S * v) l) i 0 ≡ S * getD l i 0
 getD-finer S [] i = sym (mul-zero S)
 getD-finer S (v ∷ l) zero = refl

@@ -10,3 +10,4 @@ pub mod Eighth
 pub mod Upright
 pub mod Exactly
 pub mod Counterexample
+pub mod Promises

@@ -2,7 +2,7 @@
 use mathlib.Core.Path.{ap}
 use mathlib.Core.Bool.{Bool, true, false}
 use mathlib.Core.List.{List}
-use Prim.Native.Nat.{ℕ, zero, suc, _+_, _-_, _*_, _/_, _%_, _≤_, _<_, max}
+use Prim.Native.Nat.{ℕ, zero, suc, _+_, _-_, _*_, _/_, _%_, _≤_, _<_}
 use native.Mathlib.Omega.{arith}
 use native.Mathlib.Nat.{mul-le-mul-left, mul-le-mul-right, le-of-mul-le-mul-left}
 use native.Mathlib.Decide.{decLe}
@@ -12,9 +12,9 @@ use lib.Signed.{ltZ}
 use Rattle.rules.specs.Rounding.{peak, sumZ}
 use Rattle.rules.specs.Curve.{fifty, sines, lever, leverZ, area}
 use Rattle.rules.specs.Criteria.{reaches}
-use Rattle.rules.proofs.Signed.{up, dn, Le, add≡, sub≡}
+use Rattle.rules.proofs.Signed.{Le, add≡, sub≡}
 use Rattle.rules.proofs.Searches.{Peak, peak-is, Reaches, reaches-is}
-use Rattle.earned.specs.Order.{NoLess, Hull, Better}
+use Rattle.earned.specs.Order.{NoLess, Hull, Better, curve, Follows}
 
 -- ---- sums and differences keep the order, and so does a level that is reached
 module _ (m n : ℕ) where
@@ -34,7 +34,7 @@ module _ (m n : ℕ) where
       go : (a b a′ b′ u v : ℕ) → m * a ≤ n * a′ → m * b ≤ n * b′ → m * (a * u + b * v) ≤ n * (a′ * u + b′ * v)
       go a b a′ b′ u v p q = omega (arith, mul-le-mul-right u p, mul-le-mul-right v q)
 
-  pub lever-order : (h h′ : Hull) → Better m n h h′ → (t : ℕ) → NoLess m n (lever (h .kn) (h .kg) t) (lever (h′ .kn) (h′ .kg) t)
+  lever-order : (h h′ : Hull) → Better m n h h′ → (t : ℕ) → NoLess m n (lever (h .kn) (h .kg) t) (lever (h′ .kn) (h′ .kg) t)
   unfolding lever
   lever-order h h′ b t = difference (100000 * fifty (h .kn) t) (h .kg * fifty sines t) (100000 * fifty (h′ .kn) t) (h′ .kg * fifty sines t) (wide (fifty (h .kn) t) (fifty (h′ .kn) t) (fifty-rises (h .kn) (h′ .kn) (b .kn) t)) (falls (fifty sines t))
     where
@@ -51,7 +51,7 @@ module _ (m n : ℕ) (f g : ℤ → ℤ) (above : (t : ℕ) → NoLess m n (f (p
   terms zero t = omega arith
   terms (suc k) t = sum m n (f (pos t) +ℤ f (pos (t + 1))) (g (pos t) +ℤ g (pos (t + 1))) (sumZ (λ z. f z +ℤ f (z +ℤ pos 1)) k (pos (t + 1))) (sumZ (λ z. g z +ℤ g (z +ℤ pos 1)) k (pos (t + 1))) (sum m n (f (pos t)) (g (pos t)) (f (pos (t + 1))) (g (pos (t + 1))) (above t) (above (t + 1))) (terms k (t + 1))
 
-  pub area-order : (p q : ℕ) → NoLess m n (area f (pos p) (pos q)) (area g (pos p) (pos q))
+  area-order : (p q : ℕ) → NoLess m n (area f (pos p) (pos q)) (area g (pos p) (pos q))
   unfolding area
   area-order p q = go (ltZ (pos p) (pos q))
     where
@@ -59,13 +59,13 @@ module _ (m n : ℕ) (f g : ℤ → ℤ) (above : (t : ℕ) → NoLess m n (f (p
       go true = terms (natAbs (pos q -ℤ pos p)) p
       go false = omega arith
 
-  pub greatest-order : (t k : ℕ) → NoLess m n (f (pos (peak (λ j. f (pos j)) t k))) (g (pos (peak (λ j. g (pos j)) t k)))
+  greatest-order : (t k : ℕ) → NoLess m n (f (pos (peak (λ j. f (pos j)) t k))) (g (pos (peak (λ j. g (pos j)) t k)))
   greatest-order t k = go (peak (λ j. f (pos j)) t k) (peak (λ j. g (pos j)) t k) (peak-is (λ j. f (pos j)) t k) (peak-is (λ j. g (pos j)) t k)
     where
       go : (r s : ℕ) → Peak (λ j. f (pos j)) t k r → Peak (λ j. g (pos j)) t k s → NoLess m n (f (pos r)) (g (pos s))
       go r s a b = omega (arith, above r, mul-le-mul-left n (b .most r (a .low) (a .high)))
 
-  pub no-later : 0 < n → (l l′ : ℕ) → n * l′ ≤ m * l → (t e : ℕ) → reaches g (pos l′) t e ≤ reaches f (pos l) t e
+  no-later : 0 < n → (l l′ : ℕ) → n * l′ ≤ m * l → (t e : ℕ) → reaches g (pos l′) t e ≤ reaches f (pos l) t e
   no-later i l l′ h t e = go (reaches f (pos l) t e) (reaches g (pos l′) t e) (reaches-is f (pos l) t e) (reaches-is g (pos l′) t e)
     where
       go : (r s : ℕ) → Reaches f (pos l) t e r → Reaches g (pos l′) t e s → s ≤ r
@@ -73,3 +73,10 @@ module _ (m n : ℕ) (f g : ℤ → ℤ) (above : (t : ℕ) → NoLess m n (f (p
         | yes q ↦ q
         | no q ↦ absurd (omega (arith, reached m n i l l′ (f (pos r)) (g (pos r)) h (above r) (a .hit (omega (arith, a .low, b .high))), b .before r (a .low) (omega arith)))
       ]
+
+-- ---- the order lemma
+pub order : (m n : ℕ) → 0 < n → (h h′ : Hull) → Better m n h h′ → Follows m n (curve h) (curve h′)
+unfolding leverZ
+order m n some h h′ better =
+    let above = lever-order m n h h′ better in
+    record { levers = above; areas = area-order m n (curve h) (curve h′) above; greatest = greatest-order m n (curve h) (curve h′) above; level = no-later m n (curve h) (curve h′) above some }

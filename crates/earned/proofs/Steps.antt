@@ -6,9 +6,9 @@ use native.Mathlib.Omega.{arith}
 use native.Mathlib.Nat.{mul-add-div, mul-add-mod-self-left, div-eq-of-lt, mod-eq-of-lt, mod-self, div-self, mod-lt, div-add-mod, mul-le-mul-left, mul-zero, mul-pos, sub-self, sub-zero}
 use native.Mathlib.Decide.{decLt}
 use lib.ListN.{getD}
-use lib.IntN.{ℤ, pos, negsuc, negℤ, subℕ, _+ℤ_, _-ℤ_, _*ℤ_}
+use lib.IntN.{ℤ, pos, negsuc, negℤ, subℕ, _+ℤ_, _*ℤ_}
 use Rattle.rules.specs.Curve.{Loaded, fifty, sines, lever, leverZ, y}
-use Rattle.rules.proofs.Signed.{up, dn, eq!, sub≡, add≡, up-neg, dn-neg, up-mull, dn-mull}
+use Rattle.rules.proofs.Signed.{eq!, sub≡, add≡, up-neg, dn-neg, up-mull, dn-mull}
 use Rattle.earned.specs.Gust.{stepped, leverBy, yBy}
 
 -- ---- natural numbers: D steps from station to station
@@ -52,7 +52,7 @@ refined k D p r some-k some-D e vs x = go (x / D) (x % D) (mod-lt x some-D) (div
 -- ---- y at q-ths of a tenth
 module _ (q : ℕ) (some : 0 < q) (c : Loaded) where
   -- To leeward.
-  lee : (p r t : ℕ) → p + r ≡ q → leverBy q c (q * t + r) ≡ pos p *ℤ lever (c .kn) (c .kg) t +ℤ pos r *ℤ lever (c .kn) (c .kg) (t + 1)
+  pub lee : (p r t : ℕ) → p + r ≡ q → leverBy q c (q * t + r) ≡ pos p *ℤ lever (c .kn) (c .kg) t +ℤ pos r *ℤ lever (c .kn) (c .kg) (t + 1)
   unfolding leverBy lever
   lee p r t e = rw (refined q 50 p r some (omega arith) e (c .kn) t, refined q 50 p r some (omega arith) e sines t) (go (fifty (c .kn) t) (fifty (c .kn) (t + 1)) (fifty sines t) (fifty sines (t + 1)))
     where

@@ -4,10 +4,10 @@ use mathlib.Core.Path.{_≡_}
 use mathlib.Core.List.{List}
 use Prim.Native.Nat.{ℕ, suc, _+_, _-_, _*_, _/_, _%_, _<_}
 use lib.ListN.{getD}
-use lib.IntN.{ℤ, pos, negsuc, negℤ, subℕ, _-ℤ_, _*ℤ_}
+use lib.IntN.{ℤ, pos, negsuc, negℤ, subℕ, _+ℤ_, _-ℤ_, _*ℤ_}
 use Rattle.rules.specs.Curve.{Loaded, sines, y, E, area}
 use Rattle.rules.specs.Criteria.{lw1, lw2, units, reaches}
-use Rattle.rules.specs.Roll.{phi1, start, farthest, stays}
+use Rattle.rules.specs.Roll.{start, farthest, stays}
 use Rattle.rules.proofs.Signed.{Le}
 
 -- D times the straight-line value of values at stations, D steps apart, at step x. (01's y is by 50 steps, tenths of a degree.)
@@ -31,9 +31,9 @@ unitsBy q l = pos (q * (5_000_000 * l))
 unfoldable pub phi0By : ℕ → Loaded → ℕ
 phi0By q c = reaches (yBy q c) (unitsBy q (lw1 c)) 0 (q * E c)
 
--- The Code's start: phi0 less phi1.
-unfoldable pub startBy : ℕ → Loaded → ℤ
-startBy q c = pos (phi0By q c) -ℤ pos (q * phi1 c)
+-- The Code's start: phi0 less the roll, in q-ths too.
+unfoldable pub startBy : ℕ → ℕ → Loaded → ℤ
+startBy q roll c = pos (phi0By q c) -ℤ pos roll
 
 -- 'u = first t from phi0 to min(E, 500) with y >= lw2.'
 unfoldable pub uBy : ℕ → Loaded → ℕ
@@ -44,8 +44,12 @@ unfoldable pub eBy : ℕ → Loaded → ℕ
 eBy q c = stays (yBy q c) (unitsBy q (lw2 c)) (uBy q c) (q * farthest c)
 
 -- b - a, summed over the whole range: 'area start to e, less 2 lw2 (e - start)'.
-unfoldable pub netBy : ℕ → Loaded → ℤ
-netBy q c = area (yBy q c) (startBy q c) (pos (eBy q c)) -ℤ pos 2 *ℤ unitsBy q (lw2 c) *ℤ (pos (eBy q c) -ℤ startBy q c)
+unfoldable pub netBy : ℕ → ℕ → Loaded → ℤ
+netBy q roll c = area (yBy q c) (startBy q roll c) (pos (eBy q c)) -ℤ pos 2 *ℤ unitsBy q (lw2 c) *ℤ (pos (eBy q c) -ℤ startBy q roll c)
+
+-- What the curve has over lw2 at both ends of a step: `netBy` is a sum of these.
+abbrev pub gusts : ℕ → Loaded → ℤ → ℤ
+gusts q c x = yBy q c x -ℤ unitsBy q (lw2 c) +ℤ (yBy q c (x +ℤ pos 1) -ℤ unitsBy q (lw2 c))
 
 -- The q-ths are fine enough: the curve has lw1 at phi0 exactly, and lw2 at e, or e is min(E, 500). Then `netBy` is b - a with nothing left out.
 pub record Exactly (q : ℕ) (c : Loaded) : Type 0 where

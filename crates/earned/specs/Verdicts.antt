@@ -1,23 +1,18 @@
 -- Criteria 1, 2, 3, 4, 6 and 7 by what they depend on, over a denominator D: limits are D times 01's. Over 1 they are the judgement's own.
 use mathlib.Core.Bool.{Bool, true, false, _&&_}
-use Prim.Native.Nat.{ℕ, _-_, _*_, _≤_, min}
+use Prim.Native.Nat.{ℕ, _-_, _*_, min}
 use lib.Dec.{leb, ltb}
-use lib.ListN.{getD}
 use lib.IntN.{ℤ, pos, subℕ}
 use lib.Signed.{leZ}
 use Rattle.rules.specs.Rounding.{peak}
 use Rattle.rules.specs.Blocks.{Weather}
-use Rattle.rules.specs.Curve.{Loaded, leverZ, area}
+use Rattle.rules.specs.Curve.{Loaded, area}
 use Rattle.rules.specs.Criteria as criteria
 use Rattle.rules.specs.Criteria.{code, units, reaches, passes1, passes2, passes3, passes4, passes6, passes7}
-use Rattle.earned.specs.Order.{Hull, Better}
+use Rattle.earned.specs.Order.{Hull, Better, curve}
 
 pub data Criterion : Type 0 where
   one two three four six seven : Criterion
-
--- The curve of the hull, D times as high.
-abbrev pub curve : Hull → ℤ → ℤ
-curve h = leverZ (h .kn) (h .kg)
 
 -- 'Greatest y from 300 to E .. If E < 300: .. figure 0.'
 unfoldable pub greatestLever : ℕ → Hull → ℤ
@@ -35,6 +30,10 @@ passesOver D four c h = leb 300 (c .flooding) && leZ (pos (D * code .lever)) (gr
 passesOver D six c h = leZ (pos (D * code .gm)) (subℕ (h .km) (h .kg))
 passesOver D seven c h = leb (phi0 (c .flooding) h) (c .flooding) && leb (phi0 (c .flooding) h) (code .heel) && leb (10 * phi0 (c .flooding) h) (8 * c .deckEdge)
 
+-- 5 has no limit of length: 'the first t in 0..E with the greatest y' is at least 250.
+unfoldable pub passesFifth : Weather → Hull → Bool
+passesFifth c h = leb (code .angle) (peak (λ t. curve h (pos t)) 0 (c .flooding))
+
 -- ---- the judgement's
 abbrev pub passes : Criterion → Loaded → Bool
 passes one = passes1
@@ -43,6 +42,15 @@ passes three = passes3
 passes four = passes4
 passes six = passes6
 passes seven = passes7
+
+-- Its place among the eight verdicts.
+abbrev pub place : Criterion → ℕ
+place one = 0
+place two = 1
+place three = 2
+place four = 3
+place six = 5
+place seven = 6
 
 -- The numbers that it uses.
 abbrev pub used : Loaded → Hull
