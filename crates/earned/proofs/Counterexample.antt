@@ -1,13 +1,11 @@
 -- What the condition of criterion 8's theorem excludes: a text that passes all eight with a net of +23,824,000, and whose exact b - a is below zero. Its curve lies below -lw2 from 4.8 degrees to the start.
 use mathlib.Core.Path.{_≡_, refl, ap, _∙_}
 use mathlib.Core.Bool.{false}
-use mathlib.Core.List.{List, [], _∷_}
+use mathlib.Core.List.{[], _∷_}
 use Prim.Native.Nat.{ℕ, _+_, _*_}
 use native.Mathlib.Omega.{arith}
 use lib.ListN.{replicate}
 use lib.IntN.{ℤ, pos, negℤ, _+ℤ_, _-ℤ_, _*ℤ_}
-use Rattle.rules.specs.Blocks.{Row, item}
-use Rattle.rules.specs.Layout.{Reading, end, leaf}
 use Rattle.rules.specs.Answers.{got}
 use Rattle.rules.specs.Walk.{read}
 use Rattle.rules.specs.Answer.{answered}
@@ -17,32 +15,11 @@ use Rattle.rules.specs.Criteria.{lw2}
 use Rattle.rules.specs.Roll.{phi1, start, farthest, net, noGust}
 use Rattle.rules.specs.Report.{pass, judgement}
 use Rattle.rules.proofs.Signed.{up, dn, eq!, add≡, diff≡}
-use Rattle.rules.proofs.Cases.{lines}
+use Rattle.earned.specs.Example.{text, reading}
 use Rattle.earned.specs.Gust.{yBy, phi0By, startBy, eBy, netBy, gusts, Exactly, NowhereBelow}
 use Rattle.earned.proofs.Grid.{over, part}
 use Rattle.earned.proofs.Eighth.{straight, pieces}
 use Rattle.earned.proofs.Exactly.{heel-at, heel-meets, end-far}
-
-abbrev pub text : List ℕ
-text = lines (
-    "A1000D0001D4C0000075300000000000"
-    ∷ "A2002201C9C3802EE043F80000041F0984124B173D1C98218726422ABB2EB1320A350737FB"
-    ∷ "A2002202625A002EE043F80000041F0984124B173D1C98218726422ABB2EB1320A350737FB"
-    ∷ "A30018C1000C000222E02328025801C2012CC2000601C9C3803E80"
-    ∷ [])
-
-abbrev rowOf : ℕ → Row
-rowOf w = record { mass = w; draught = 12_000; km = 17_400; kn = 0 ∷ 1_055 ∷ 2_436 ∷ 4_683 ∷ 5_949 ∷ 7_320 ∷ 8_583 ∷ 9_794 ∷ 10_939 ∷ 11_953 ∷ 12_810 ∷ 13_575 ∷ 14_331 ∷ [] }
-
-abbrev pub reading : Reading
-reading = record {
-  ship = record { hullLength = 120_000; breadth = 30_000; keelArea = 0; bilge = 0 };
-  rows = rowOf 30_000_000 ∷ rowOf 40_000_000 ∷ [];
-  condition = record {
-    weather = record { windArea = 140_000; z = 9_000; cb = 600; flooding = 450; deckEdge = 300 };
-    load = leaf item (record { mass = 30_000_000; centre = 16_000 }) end;
-  };
-}
 
 pub reads : read text ≡ got reading
 unfolding read

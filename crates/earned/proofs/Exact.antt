@@ -101,6 +101,33 @@ module _ (f : Row → ℕ) (w : ℕ) where
       later c [] m h = h .2
       later c (d ∷ a) m h = later d a (c .mass) (h .2)
 
+-- ---- the exact values are 01's fractions
+abbrev from : ℕ → ℕ → List ℕ
+from n zero = []
+from n (suc k) = n ∷ from (suc n) k
+
+each : (f : ℕ → ℕ) (k n i j : ℕ) → i < k → n + i ≡ j → getD (map f (from n k)) i 0 ≡ f j
+each f zero n i j l e = absurd (omega arith)
+each f (suc k) n zero j l e = let z : n ≡ j = omega arith in ap f z
+each f (suc k) n (suc i) j l e = each f k (suc n) i j (omega arith) (omega arith)
+
+module _ (R : Reading) (limits : Limits R) where
+  on-line : (f : Row → ℕ) → Straight R f (column f R)
+  unfolding column over
+  on-line f a z r s e h k = go (spanAt f (R .rows) (weight R)) (weight R) (s .mass - r .mass) (span (cell f r) (cell f s) (weight R)) (gapAt (R .rows) (weight R)) (subst (λ (rows : List Row). spanAt f rows (weight R) * (s .mass - r .mass) ≡ span (cell f r) (cell f s) (weight R) * gapAt rows (weight R)) e (straight f (weight R) a z r s 0 (subst (Rising 0) (sym e) (limits .rising)) h k))
+    where
+      go : (n w g p d : ℕ) → n * g ≡ p * d → n * (w * 981) * g ≡ p * (w * d * 981)
+      go n w g p d h = omega (arith, ap (λ (x : ℕ). x * w) h)
+
+  pub exact-fractions : Fractions R (exact R)
+  unfolding exact over
+  exact-fractions = record {
+    kn = λ i l. subst (Straight R (λ v. getD (v .kn) i 0)) (sym (each (λ i. column (λ v. getD (v .kn) i 0) R) 13 0 i i l (omega arith))) (on-line (λ v. getD (v .kn) i 0));
+    km = on-line (λ v. v .km);
+    kg = omega arith;
+    lw1 = omega arith;
+  }
+
 -- ---- a reading that is judged: W is not below the first row, so it is above zero
 module _ (R : Reading) (limits : Limits R) (judged : weighed R ≡ got tt) where
   floats : firstMass (R .rows) ≤ weight R
@@ -155,30 +182,3 @@ module _ (R : Reading) (limits : Limits R) (judged : weighed R ≡ got tt) where
 
       lw1-less : (a l w g : ℕ) → a ≤ l * (981 * w) → 1 * (a * g) ≤ w * g * 981 * l
       lw1-less a l w g h = omega (arith, mul-le-mul-right g h)
-
--- ---- and they are 01's fractions
-abbrev from : ℕ → ℕ → List ℕ
-from n zero = []
-from n (suc k) = n ∷ from (suc n) k
-
-each : (f : ℕ → ℕ) (k n i j : ℕ) → i < k → n + i ≡ j → getD (map f (from n k)) i 0 ≡ f j
-each f zero n i j l e = absurd (omega arith)
-each f (suc k) n zero j l e = let z : n ≡ j = omega arith in ap f z
-each f (suc k) n (suc i) j l e = each f k (suc n) i j (omega arith) (omega arith)
-
-module _ (R : Reading) (limits : Limits R) where
-  on-line : (f : Row → ℕ) → Straight R f (column f R)
-  unfolding column over
-  on-line f a z r s e h k = go (spanAt f (R .rows) (weight R)) (weight R) (s .mass - r .mass) (span (cell f r) (cell f s) (weight R)) (gapAt (R .rows) (weight R)) (subst (λ (rows : List Row). spanAt f rows (weight R) * (s .mass - r .mass) ≡ span (cell f r) (cell f s) (weight R) * gapAt rows (weight R)) e (straight f (weight R) a z r s 0 (subst (Rising 0) (sym e) (limits .rising)) h k))
-    where
-      go : (n w g p d : ℕ) → n * g ≡ p * d → n * (w * 981) * g ≡ p * (w * d * 981)
-      go n w g p d h = omega (arith, ap (λ (x : ℕ). x * w) h)
-
-  pub exact-fractions : Fractions R (exact R)
-  unfolding exact over
-  exact-fractions = record {
-    kn = λ i l. subst (Straight R (λ v. getD (v .kn) i 0)) (sym (each (λ i. column (λ v. getD (v .kn) i 0) R) 13 0 i i l (omega arith))) (on-line (λ v. getD (v .kn) i 0));
-    km = on-line (λ v. v .km);
-    kg = omega arith;
-    lw1 = omega arith;
-  }

@@ -17,7 +17,7 @@ use Rattle.rules.specs.Criteria as criteria
 use Rattle.rules.specs.Criteria.{code, passes1, passes2, passes3, passes4, passes6, passes7, area1, area2, area3}
 use Rattle.rules.proofs.Signed.{at-least, le-true}
 use Rattle.earned.specs.Order.{NoLess, Hull, Better, finer, curve, Follows}
-use Rattle.earned.specs.Verdicts.{Criterion, one, two, three, four, six, seven, greatestLever, phi0, passesOver, passes, used, Behind}
+use Rattle.earned.specs.Verdicts.{Criterion, one, two, three, four, six, seven, limitOver, greatestLever, phi0, passesOver, passes, used, Behind}
 use Rattle.earned.proofs.Order.{difference, reached, order}
 
 -- ---- tests
@@ -34,10 +34,13 @@ module _ (m n D D′ : ℕ) (some : 0 < n) (scale : n * D′ ≤ m * D) (c : Wea
   follows : Follows m n (curve h) (curve h′)
   follows = order m n some h h′ better
 
-  at-least-so : (l : ℕ) (a b : ℤ) → NoLess m n a b → leZ (pos (D * l)) a ≡ true → leZ (pos (D′ * l)) b ≡ true
-  at-least-so l a b k p = le-true (pos (D′ * l)) b (reached m n some (D * l) (D′ * l) a b (omega (arith, mul-le-mul-right l scale)) k (at-least (pos (D * l)) a p))
+  limit : (l : ℕ) → n * limitOver D′ l ≤ m * limitOver D l
+  limit l = omega (arith, mul-le-mul-right l scale)
 
-  area-keeps : (l p q : ℕ) → leZ (pos (D * l)) (area (curve h) (pos p) (pos q)) ≡ true → leZ (pos (D′ * l)) (area (curve h′) (pos p) (pos q)) ≡ true
+  at-least-so : (l : ℕ) (a b : ℤ) → NoLess m n a b → leZ (pos (limitOver D l)) a ≡ true → leZ (pos (limitOver D′ l)) b ≡ true
+  at-least-so l a b k p = le-true (pos (limitOver D′ l)) b (reached m n some (limitOver D l) (limitOver D′ l) a b (limit l) k (at-least (pos (limitOver D l)) a p))
+
+  area-keeps : (l p q : ℕ) → leZ (pos (limitOver D l)) (area (curve h) (pos p) (pos q)) ≡ true → leZ (pos (limitOver D′ l)) (area (curve h′) (pos p) (pos q)) ≡ true
   area-keeps l p q = at-least-so l (area (curve h) (pos p) (pos q)) (area (curve h′) (pos p) (pos q)) (follows .areas p q)
 
   greatest-keeps : (e : ℕ) → NoLess m n (greatestLever e h) (greatestLever e h′)
@@ -57,7 +60,7 @@ module _ (m n D D′ : ℕ) (some : 0 < n) (scale : n * D′ ≤ m * D) (c : Wea
   keeps one = area-keeps (code .area1) 0 (min 300 (c .flooding))
   keeps two = area-keeps (code .area2) 300 (min 400 (c .flooding))
   keeps three = area-keeps (code .area3) 0 (min 400 (c .flooding))
-  keeps four = both (leb 300 (c .flooding)) (leZ (pos (D * code .lever)) (greatestLever (c .flooding) h)) (leb 300 (c .flooding)) (leZ (pos (D′ * code .lever)) (greatestLever (c .flooding) h′)) (λ p. p) (at-least-so (code .lever) (greatestLever (c .flooding) h) (greatestLever (c .flooding) h′) (greatest-keeps (c .flooding)))
+  keeps four = both (leb 300 (c .flooding)) (leZ (pos (limitOver D (code .lever))) (greatestLever (c .flooding) h)) (leb 300 (c .flooding)) (leZ (pos (limitOver D′ (code .lever))) (greatestLever (c .flooding) h′)) (λ p. p) (at-least-so (code .lever) (greatestLever (c .flooding) h) (greatestLever (c .flooding) h′) (greatest-keeps (c .flooding)))
   keeps six = at-least-so (code .gm) (subℕ (h .km) (h .kg)) (subℕ (h′ .km) (h′ .kg)) (difference m n (h .km) (h .kg) (h′ .km) (h′ .kg) (better .km) (better .kg))
   keeps seven = go (phi0 (c .flooding) h) (phi0 (c .flooding) h′) (heel-keeps (c .flooding))
     where

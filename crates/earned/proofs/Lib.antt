@@ -1,3 +1,4 @@
+pub mod Worked
 pub mod Order
 pub mod Keeps
 pub mod Limits

@@ -36,7 +36,7 @@ module _ (m n : ℕ) where
 
   lever-order : (h h′ : Hull) → Better m n h h′ → (t : ℕ) → NoLess m n (lever (h .kn) (h .kg) t) (lever (h′ .kn) (h′ .kg) t)
   unfolding lever
-  lever-order h h′ b t = difference (100000 * fifty (h .kn) t) (h .kg * fifty sines t) (100000 * fifty (h′ .kn) t) (h′ .kg * fifty sines t) (wide (fifty (h .kn) t) (fifty (h′ .kn) t) (fifty-rises (h .kn) (h′ .kn) (b .kn) t)) (falls (fifty sines t))
+  lever-order h h′ b t = difference (100000 * fifty (h .kn) t) (h .kg * fifty sines t) (100000 * fifty (h′ .kn) t) (h′ .kg * fifty sines t) (wide (fifty (h .kn) t) (fifty (h′ .kn) t) (fifty-rises (h .kn) (h′ .kn) (λ i. omega (arith, b .kn i)) t)) (falls (fifty sines t))
     where
       wide : (a b : ℕ) → m * a ≤ n * b → m * (100000 * a) ≤ n * (100000 * b)
       wide a b p = omega arith

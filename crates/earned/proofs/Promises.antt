@@ -27,6 +27,7 @@ use Rattle.earned.specs.Order.{NoLess, Hull, finer, Better, curve, Follo
 use Rattle.earned.specs.Verdicts.{Criterion, one, two, three, four, six, seven, passesOver, passesFifth, passes, place, used, Behind}
 use Rattle.earned.specs.Exact.{over, exact, Fractions}
 use Rattle.earned.specs.Limits.{PiFrom, PiTo, Covers}
+use Rattle.earned.specs.Example.{text, reading}
 use Rattle.earned.specs.Gust.{startBy, eBy, netBy, gusts, Exactly, NowhereBelow}
 use Rattle.earned.proofs.Order as orders
 use Rattle.earned.proofs.Keeps as keeping
@@ -114,24 +115,24 @@ net-and-pieces R l w q some = gust.pieces q some (loaded R) (upright (loaded R) 
 
 -- ---- what the condition excludes
 -- A text that passes all eight, with a net of +23,824,000 ..
-pub counterexample-passes : answered counter.text ≡ got (record {
+pub counterexample-passes : answered text ≡ got (record {
   verdicts = replicate 8 pass;
   figures = pos 30_000_000 ∷ pos 16_000 ∷ pos 1_400 ∷ pos 593_090_000_000 ∷ pos 617_700_000_000 ∷ pos 1_210_790_000_000 ∷ pos 3_271_800_000 ∷ pos 400 ∷ pos 132 ∷ pos 187 ∷ pos 23_824_000 ∷ [];
 })
 counterexample-passes = counter.judges
 
 -- .. which is read so ..
-pub counterexample-reads : read counter.text ≡ got counter.reading
+pub counterexample-reads : read text ≡ got reading
 counterexample-reads = counter.reads
 
 -- .. and at 22,107 parts of a tenth, where its angles are exact ..
-pub counterexample-exact : Exactly 22_107 (loaded counter.reading)
+pub counterexample-exact : Exactly 22_107 (loaded reading)
 counterexample-exact = counter.exactly
 
 -- .. its b - a, 22,107² times, is -32,894,216,979,796,000: it is -67,306,953.
-pub counterexample-below : netBy 22_107 (22_107 * phi1 (loaded counter.reading)) (loaded counter.reading) ≡ negℤ (pos 32_894_216_979_796_000)
+pub counterexample-below : netBy 22_107 (22_107 * phi1 (loaded reading)) (loaded reading) ≡ negℤ (pos 32_894_216_979_796_000)
 counterexample-below = counter.b-less-a
 
 -- Its curve is not one of those above.
-pub counterexample-excluded : ¬ NowhereBelow (loaded counter.reading)
+pub counterexample-excluded : ¬ NowhereBelow (loaded reading)
 counterexample-excluded = counter.excluded

@@ -3,3 +3,4 @@ pub mod Verdicts
 pub mod Exact
 pub mod Limits
 pub mod Gust
+pub mod Example

@@ -14,6 +14,10 @@ use Rattle.earned.specs.Order.{Hull, Better, curve}
 pub data Criterion : Type 0 where
   one two three four six seven : Criterion
 
+-- A limit, over D.
+abbrev pub limitOver : ℕ → ℕ → ℕ
+limitOver D l = D * l
+
 -- 'Greatest y from 300 to E .. If E < 300: .. figure 0.'
 unfoldable pub greatestLever : ℕ → Hull → ℤ
 greatestLever e h = elim (ltb e 300) [ true ↦ pos 0 | false ↦ curve h (pos (peak (λ t. curve h (pos t)) 300 (e - 300))) ]
@@ -23,11 +27,11 @@ unfoldable pub phi0 : ℕ → Hull → ℕ
 phi0 e h = reaches (curve h) (units (h .lw1)) 0 e
 
 unfoldable pub passesOver : ℕ → Criterion → Weather → Hull → Bool
-passesOver D one c h = leZ (pos (D * code .area1)) (area (curve h) (pos 0) (pos (min 300 (c .flooding))))
-passesOver D two c h = leZ (pos (D * code .area2)) (area (curve h) (pos 300) (pos (min 400 (c .flooding))))
-passesOver D three c h = leZ (pos (D * code .area3)) (area (curve h) (pos 0) (pos (min 400 (c .flooding))))
-passesOver D four c h = leb 300 (c .flooding) && leZ (pos (D * code .lever)) (greatestLever (c .flooding) h)
-passesOver D six c h = leZ (pos (D * code .gm)) (subℕ (h .km) (h .kg))
+passesOver D one c h = leZ (pos (limitOver D (code .area1))) (area (curve h) (pos 0) (pos (min 300 (c .flooding))))
+passesOver D two c h = leZ (pos (limitOver D (code .area2))) (area (curve h) (pos 300) (pos (min 400 (c .flooding))))
+passesOver D three c h = leZ (pos (limitOver D (code .area3))) (area (curve h) (pos 0) (pos (min 400 (c .flooding))))
+passesOver D four c h = leb 300 (c .flooding) && leZ (pos (limitOver D (code .lever))) (greatestLever (c .flooding) h)
+passesOver D six c h = leZ (pos (limitOver D (code .gm))) (subℕ (h .km) (h .kg))
 passesOver D seven c h = leb (phi0 (c .flooding) h) (c .flooding) && leb (phi0 (c .flooding) h) (code .heel) && leb (10 * phi0 (c .flooding) h) (8 * c .deckEdge)
 
 -- 5 has no limit of length: 'the first t in 0..E with the greatest y' is at least 250.
