@@ -1,4 +1,4 @@
-pub mod Worked
+pub mod Cases
 pub mod Order
 pub mod Keeps
 pub mod Limits
