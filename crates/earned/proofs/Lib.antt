@@ -1,0 +1,14 @@
+pub mod Cases
+pub mod Order
+pub mod Keeps
+pub mod Limits
+pub mod Exact
+pub mod Fifth
+pub mod Steps
+pub mod Grid
+pub mod Finer
+pub mod Eighth
+pub mod Upright
+pub mod Exactly
+pub mod Counterexample
+pub mod Promises

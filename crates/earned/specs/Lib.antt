@@ -1,0 +1,6 @@
+pub mod Order
+pub mod Verdicts
+pub mod Exact
+pub mod Limits
+pub mod Gust
+pub mod Example
