@@ -1,5 +1,5 @@
 -- What the code's answers say of the rules' answers, and how the answer of a whole follows from those of its parts.
-use mathlib.Core.Path.{_≡_, refl, ap, sym, _∙_}
+use mathlib.Core.Path.{_≡_, refl, ap, sym, subst, _∙_}
 use mathlib.Core.Bool.{true}
 use mathlib.Core.List.{List}
 use Prim.Native.Nat.{ℕ, _+_, _-_, _≤_, _<_}
@@ -62,29 +62,26 @@ module _ (m : Ans walk.Block) (b : Block) (e : b ≡ blockOf m) where
       go (got (one k v)) p = absurd (let z : _≡_ {A = ℕ} 0 1 = cc in omega arith)
       go (got nest) p = refl
 
--- A block that is read had room, and an entry is within its limits.
-abbrev Room : ℕ → ℕ → walk.Block → Type 0
-Room d n (one k v) = (0 < n) × (ok (entry k) v ≡ true)
-Room d n nest = 0 < d
+-- An entry that is read had room, and is within its limits.
+abbrev Room : ℕ → walk.Block → Type 0
+Room n (one k v) = (0 < n) × (ok (entry k) v ≡ true)
+Room n nest = Unit {0}
 
-pub room : (ln d n at t : ℕ) (body : List ℕ) (b : walk.Block) → blockAt ln d n at t body ≡ got b → Room d n b
+room : (ln d n at t : ℕ) (body : List ℕ) (b : walk.Block) → blockAt ln d n at t body ≡ got b → Room n b
 unfolding blockAt begun fixed
-room ln d n at t body b e = let a = bind-inv _ _ e in go (a .0) (a .2)
+room ln d n at t body nest e = tt
+room ln d n at t body (one k v) e = let a = bind-inv _ _ e in go (a .0) (a .2)
   where
-    go : (x : Tag) → begun ln d n at body x ≡ got b → Room d n b
-    go (load k) e =
+    go : (x : Tag) → begun ln d n at body x ≡ got (one k v) → Room n (one k v)
+    go (load j) e =
         let a = bind-inv _ _ e in
         let x = test-inv _ 3 ln at _ (a .1) in
         let y = test-inv _ 5 ln at _ (x .1) in
         let z = test-inv _ 6 ln at _ (y .1) in
-        let v : entry k .named (rules.values (entry k .fields) body) ≡ a .0 = cc in
-        let q : one k (a .0) ≡ b = cc in
-        rw (← q) (ltb-true 0 n (y .0), rw v at (z .0))
-    go nested e =
-        let a = test-inv _ 5 ln at _ e in
-        let f = test-inv _ 5 ln at _ (a .1) in
-        let q : nest ≡ b = cc in
-        rw (← q) (ltb-true 0 d (a .0))
+        let w : entry j .named (rules.values (entry j .fields) body) ≡ a .0 = cc in
+        let q : one j (a .0) ≡ one k v = cc in
+        subst (Room n) q (ltb-true 0 n (y .0), rw w at (z .0))
+    go nested e = let a = test-inv _ 5 ln at _ e in let f = test-inv _ 5 ln at _ (a .1) in absurd (let z : _≡_ {A = ℕ} 0 1 = cc in omega arith)
 
 -- So one more entry can be added.
 pub entry-bounded : (ln d at g : ℕ) (body : List ℕ) (t e : Sums) (b : Block) → b ≡ blockOf (blockAt ln d (mostEntries - t .count) at g body) → b ≡ block.Entry e → Bounded e × (t .count + e .count ≤ mostEntries)

@@ -5,7 +5,7 @@ use mathlib.Core.List.{List, [], _∷_}
 use Prim.Native.Nat.{ℕ, suc, _+_, _-_, _*_, _≤_, _<_}
 use native.Mathlib.Omega.{arith}
 use native.Mathlib.Nat.{mul-le-mul}
-use lib.ListN.{length, getD}
+use lib.ListN.{getD}
 use lib.Dec.{ltb}
 use Rattle.rules.specs.Numbers.{Bytes}
 use Rattle.rules.specs.Blocks.{ok, Load, item, tank, Values, entry}
@@ -13,13 +13,13 @@ use Rattle.rules.specs.Layout.{Entries, end, leaf, group, leaves, Good, mostEnt
 use Rattle.rules.specs.Answers.{got}
 use Rattle.rules.specs.Walk.{entries}
 use Rattle.rules.proofs.Sums.{leaves-flat}
-use Rattle.rules.proofs.Walked.{walk-sound}
+use Rattle.rules.proofs.Walked.{entries-sound}
 use Rattle.book.specs.Book.{sumsOf}
 use Rattle.book.specs.declared.Sums.{Sums}
 use Rattle.blocks.specs.Told.{sumsOfOne}
 use Rattle.blocks.proofs.Limits.{limits-item, limits-tank}
-use Rattle.frames.specs.Sums.{none, plus, Bounded}
-use Rattle.frames.proofs.Adding.{plus-none, plus-end, plus-leaf, plus-group}
+use Rattle.frames.specs.Sums.{plus, Bounded}
+use Rattle.frames.proofs.Adding.{plus-end, plus-leaf, plus-group}
 
 pub one-bounded : (k : Load) (v : Values k) → ok (entry k) v ≡ true → Bounded (sumsOfOne k v)
 one-bounded item v o =
@@ -52,10 +52,6 @@ load-bounded end t B G l = rw (plus-end t) B
 load-bounded (leaf k v r) t B G l = rw (plus-leaf t k v r) (load-bounded r (plus t (sumsOfOne k v)) (plus-bounded t (sumsOfOne k v) B (one-bounded k v (G .0)) (omega arith)) (G .1) (omega arith))
 load-bounded (group g r) t B G l = rw (plus-group t g r) (load-bounded r (plus t (sumsOf g)) (load-bounded g t B (G .1) (omega arith)) (G .2) (omega (arith, counted g)))
 
--- The sums of a load within its limits.
-pub good-bounded : (F : Entries) → Good F → leaves F ≤ mostEntries → Bounded (sumsOf F)
-good-bounded F G l = rw (plus-none (sumsOf F)) at (load-bounded F none (record { count = omega arith; mass = omega arith; moment = omega arith; free = omega arith }) G (omega arith))
-
 pub each-byte : (s : List ℕ) → ((i : ℕ) → getD s i 0 < 256) → Bytes s
 unfolding Bytes
 each-byte [] h = tt
@@ -63,5 +59,4 @@ each-byte (b ∷ s) h = (h 0, each-byte s (λ i. h (suc i)))
 
 -- The sums of entries that the walk has read, on top of t.
 pub entries-bounded : (ln d at : ℕ) (s : List ℕ) (F : Entries) (t : Sums) → Bounded t → Bytes s → entries ln d (mostEntries - t .count) at s ≡ got F → Bounded (plus t (sumsOf F))
-unfolding entries
-entries-bounded ln d at s F t B h e = let w = walk-sound ln (suc (length s)) d (mostEntries - t .count) at s F h e in load-bounded F t B (w .good) (omega (arith, B .count, w .many))
+entries-bounded ln d at s F t B h e = let w = entries-sound ln d (mostEntries - t .count) at s F h e in load-bounded F t B (w .good) (omega (arith, B .count, w .many))

@@ -1,3 +1,4 @@
+-- `block_at` meets its contract: the tag says which block it is, and each kind answers for itself.
 use mathlib.Core.Path.{ap, sym, _∙_}
 use borrow.Author.Needs.{needs}
 use Rattle.rules.specs.Blocks.{item, tank}

@@ -1,3 +1,4 @@
+-- `entry_in` meets its contract: an item and a tank hold what their own functions say.
 use borrow.Author.Needs.{needs}
 use Rattle.rules.specs.Blocks.{size}
 use Rattle.blocks.proofs.entry_in.Statement.{statement}

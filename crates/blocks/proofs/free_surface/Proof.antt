@@ -1,3 +1,4 @@
+-- `free_surface` meets its contract: within the limits 1000 x density x inertia fits.
 use mathlib.Core.Path.{sym, _∙_}
 use native.Mathlib.Nat.{mul-le-mul}
 use native.Mathlib.Omega.{arith}

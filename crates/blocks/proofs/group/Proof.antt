@@ -1,3 +1,4 @@
+-- `group` meets its contract: no depth left and an empty body are 5; else it is a group.
 use mathlib.Core.Path.{ap, sym}
 use native.Mathlib.Omega.{arith}
 use borrow.Author.Needs.{needs}

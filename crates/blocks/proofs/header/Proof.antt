@@ -1,3 +1,4 @@
+-- `header` meets its contract: the length against what is left of the parent.
 use mathlib.Core.Path.{ap, sym}
 use native.Mathlib.Omega.{arith}
 use borrow.Author.Needs.{needs}

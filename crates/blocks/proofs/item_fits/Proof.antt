@@ -1,3 +1,4 @@
+-- `item_fits` meets its contract: the two limits, one after the other.
 use borrow.Author.Needs.{needs}
 use Rattle.blocks.proofs.Limits.{ok-item}
 use Rattle.blocks.proofs.item_fits.Statement.{statement}

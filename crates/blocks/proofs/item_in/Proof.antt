@@ -1,3 +1,4 @@
+-- `item_in` meets its contract: within its limits an item adds mass and moment, and no free surface.
 use mathlib.Core.Path.{sym, _∙_}
 use borrow.Author.Needs.{needs}
 use Rattle.rules.specs.Blocks.{item}

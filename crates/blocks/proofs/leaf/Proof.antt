@@ -1,3 +1,4 @@
+-- `leaf` meets its contract: length, room and values, in that order: 3, 5, 6.
 use mathlib.Core.Path.{sym, _∙_}
 use borrow.Author.Needs.{needs}
 use denote.Ref.{now}

@@ -1,3 +1,4 @@
+-- `levers` meets its contract: value after value is stored, so that after i turns the first i are the row's.
 use mathlib.Core.Path.{_≡_, refl, _∙_}
 use Prim.Native.Nat.{_≤_, _-_, _+_, _*_}
 use native.Mathlib.Omega.{arith}

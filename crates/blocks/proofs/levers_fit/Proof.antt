@@ -1,3 +1,4 @@
+-- `levers_fit` meets its contract: after i turns the values before i are within their limits.
 use mathlib.Core.Path.{_≡_, sym, _∙_}
 use mathlib.Core.List.{_∷_}
 use Prim.Native.Nat.{_≤_, _-_}

@@ -1,3 +1,4 @@
+-- `moment` meets its contract: within the limits mass x centre fits.
 use native.Mathlib.Nat.{mul-le-mul}
 use native.Mathlib.Omega.{arith}
 use borrow.Author.Needs.{needs}

@@ -1,3 +1,4 @@
+-- `no_row` meets its contract: the refusal, and a blank row.
 use borrow.Author.Needs.{needs}
 use Rattle.blocks.proofs.no_row.Statement.{statement}
 use Rattle.blocks.proofs.no_row.Tie as tie

@@ -1,3 +1,4 @@
+-- `read_row` meets its contract: each value at its place.
 use mathlib.Core.Path.{sym}
 use borrow.Author.Needs.{needs}
 use Rattle.blocks.proofs.Values.{row-values}

@@ -1,3 +1,4 @@
+-- `row_fits` meets its contract: the limits, one after the other.
 use borrow.Author.Needs.{needs}
 use Rattle.blocks.proofs.Limits.{ok-row}
 use Rattle.blocks.proofs.row_fits.Statement.{statement}

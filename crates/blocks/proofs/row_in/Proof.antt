@@ -1,3 +1,4 @@
+-- `row_in` meets its contract: alone on its line, its length, its limits, its W: 3, 3, 6, 6.
 use mathlib.Core.Path.{ap, sym, _∙_}
 use borrow.Author.Tests.{not-true, not-false}
 use borrow.Author.Needs.{needs}

@@ -1,3 +1,4 @@
+-- `ship_fits` meets its contract: the four limits, one after the other.
 use borrow.Author.Needs.{needs}
 use Rattle.blocks.proofs.Limits.{ok-ship}
 use Rattle.blocks.proofs.ship_fits.Statement.{statement}

@@ -1,3 +1,4 @@
+-- `ship_frame` meets its contract: head, tag, and then the ship: 2, 4.
 use mathlib.Core.Path.{ap, sym, _∙_}
 use borrow.Author.Needs.{needs}
 use denote.Ref.{now}

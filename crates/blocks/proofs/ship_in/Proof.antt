@@ -1,3 +1,4 @@
+-- `ship_in` meets its contract: alone on its line, its length, its limits: 3, 3, 6.
 use mathlib.Core.Path.{ap, sym, _∙_}
 use borrow.Author.Needs.{needs}
 use denote.Ref.{now}

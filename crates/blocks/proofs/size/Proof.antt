@@ -1,3 +1,4 @@
+-- `size` meets its contract: the widths of the fields added up.
 use borrow.Author.Needs.{needs}
 use Rattle.rules.specs.Blocks.{size}
 use Rattle.blocks.proofs.size.Statement.{statement}

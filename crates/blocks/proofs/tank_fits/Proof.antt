@@ -1,3 +1,4 @@
+-- `tank_fits` meets its contract: the five limits, one after the other, and the rule of the fill.
 use borrow.Author.Needs.{needs}
 use Rattle.blocks.proofs.Limits.{ok-tank}
 use Rattle.blocks.proofs.tank_fits.Statement.{statement}

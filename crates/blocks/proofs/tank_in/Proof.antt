@@ -1,3 +1,4 @@
+-- `tank_in` meets its contract: within its limits a tank adds mass, moment and free surface.
 use mathlib.Core.Path.{sym, _∙_}
 use native.Mathlib.Omega.{arith}
 use borrow.Author.Needs.{needs}

@@ -1,3 +1,4 @@
+-- `weather_at` meets its contract: tag, length, limits: 4, 3, 6.
 use mathlib.Core.Path.{ap, sym, _∙_}
 use borrow.Author.Needs.{needs}
 use Rattle.rules.specs.Blocks.{size, ok, weather}

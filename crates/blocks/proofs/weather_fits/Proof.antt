@@ -1,3 +1,4 @@
+-- `weather_fits` meets its contract: the five limits, one after the other.
 use borrow.Author.Needs.{needs}
 use Rattle.blocks.proofs.Limits.{ok-weather}
 use Rattle.blocks.proofs.weather_fits.Statement.{statement}

@@ -1,3 +1,4 @@
+-- `entries` meets its contract: a block is read, then those after it; a group is read first, as its own body, and then those after it.
 use mathlib.Core.Path.{_≡_, ap, sym, _∙_}
 use Prim.Native.Nat.{ℕ, _+_, _-_, _≤_, _<_}
 use native.Mathlib.Omega.{arith}
@@ -9,13 +10,14 @@ use denote.Ref.{now}
 use Rattle.rules.specs.Answers.{got}
 use Rattle.rules.specs.Walk.{header}
 use Rattle.rules.specs.Parts.{headAt}
+use Rattle.rules.proofs.Walked.{nest-inv}
 use Rattle.rules.proofs.Ways.{entries-empty, entries-short, block-refused, block-entry, group-refused, group-got}
 use Rattle.blocks.proofs.Heads.{head-short, head-block}
 use Rattle.frames.specs.Told.{loadRead}
 use Rattle.frames.specs.declared.LoadRead.the-variants.{Sum}
 use Rattle.frames.proofs.Adding.{plus-end}
 use Rattle.frames.proofs.Bounds.{plus-bounded, each-byte}
-use Rattle.frames.proofs.Answers.{told-refused, told-entry, told-group, room, entry-bounded, group-bounded, load-refused, load-sum, after-entry, after-group}
+use Rattle.frames.proofs.Answers.{told-refused, told-entry, told-group, entry-bounded, group-bounded, load-refused, load-sum, after-entry, after-group}
 use Rattle.frames.proofs.entries.Reads as reads
 use Rattle.frames.proofs.entries.Kinds as kinds
 use Rattle.frames.proofs.+entries.Lts-entries as lts
@@ -140,8 +142,8 @@ module _ (m : ℕ) where
   sub-entries : lts.Need-sub-entries calls Pre reads.Post
   sub-entries c =
       let b = c .before .before in
-      let r : 0 < start (known b) .args .depth = room _ _ _ _ _ _ _ (told-group _ _ (b .block-at .ensures) (c .enum-told2 .given .1)) in
-      omega arith
+      let r = nest-inv _ _ _ _ _ _ (told-group _ _ (b .block-at .ensures) (c .enum-told2 .given .1)) in
+      omega (arith, r .1)
 
   entries-requires-2 : lts.Need-entries-requires-2 calls Pre reads.Post
   entries-requires-2 c κs =

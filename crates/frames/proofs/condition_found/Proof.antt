@@ -1,3 +1,4 @@
+-- `condition_found` meets its contract: case by case.
 use borrow.Author.Needs.{needs}
 use Rattle.frames.proofs.condition_found.Statement.{statement}
 use Rattle.frames.proofs.condition_found.Tie as tie

@@ -1,3 +1,4 @@
+-- `condition_in` meets its contract: alone on its line, no longer than 4,096, and what is inside: 3, 5.
 use mathlib.Core.Path.{ap, sym, _∙_}
 use borrow.Author.Needs.{needs}
 use denote.Ref.{now}

@@ -1,3 +1,4 @@
+-- `frame_at` meets its contract: head, tag, rows so far: 2, 4; then the row or the condition.
 -- Where the head of the frame is read, and what it is.
 use mathlib.Core.Path.{_≡_, ap, sym, _∙_}
 use Prim.Native.Nat.{ℕ, _+_, _≤_}

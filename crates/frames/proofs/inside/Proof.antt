@@ -1,3 +1,4 @@
+-- `inside` meets its contract: one block is owed; the first is the weather, and the load follows it.
 -- Where the head of the first block is read, and what it is.
 use mathlib.Core.Path.{_≡_, ap, sym, _∙_}
 use Prim.Native.Nat.{ℕ, _+_, _≤_}

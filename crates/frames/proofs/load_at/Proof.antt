@@ -1,3 +1,4 @@
+-- `load_at` meets its contract: one entry is owed; the sums begin at nothing.
 use mathlib.Core.Path.{ap, sym, _∙_}
 use native.Mathlib.Omega.{arith}
 use borrow.Author.Needs.{needs}

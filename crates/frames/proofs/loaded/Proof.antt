@@ -1,3 +1,4 @@
+-- `loaded` meets its contract: case by case.
 use borrow.Author.Needs.{needs}
 use Rattle.frames.proofs.loaded.Statement.{statement}
 use Rattle.frames.proofs.loaded.Tie as tie

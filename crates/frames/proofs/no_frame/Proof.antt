@@ -1,3 +1,4 @@
+-- `no_frame` meets its contract: the refusal, and a blank row.
 use borrow.Author.Needs.{needs}
 use Rattle.frames.proofs.no_frame.Statement.{statement}
 use Rattle.frames.proofs.no_frame.Tie as tie

@@ -1,3 +1,4 @@
+-- `row_found` meets its contract: case by case.
 use borrow.Author.Needs.{needs}
 use Rattle.frames.proofs.row_found.Statement.{statement}
 use Rattle.frames.proofs.row_found.Tie as tie

@@ -1,3 +1,4 @@
+-- `after_found` meets its contract: case by case.
 use borrow.Author.Needs.{needs}
 use Rattle.reading.proofs.after_found.Statement.{statement}
 use Rattle.reading.proofs.after_found.Tie as tie

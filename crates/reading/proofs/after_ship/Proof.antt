@@ -1,3 +1,4 @@
+-- `after_ship` meets its contract: case by case.
 use borrow.Author.Needs.{needs}
 use Rattle.reading.proofs.after_ship.Statement.{statement}
 use Rattle.reading.proofs.after_ship.Tie as tie

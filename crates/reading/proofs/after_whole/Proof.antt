@@ -1,3 +1,4 @@
+-- `after_whole` meets its contract: case by case.
 use borrow.Author.Needs.{needs}
 use Rattle.reading.proofs.after_whole.Statement.{statement}
 use Rattle.reading.proofs.after_whole.Tie as tie

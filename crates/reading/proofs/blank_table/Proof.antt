@@ -1,3 +1,4 @@
+-- `blank_table` meets its contract: forty blank rows.
 use borrow.Author.Needs.{needs}
 use Rattle.book.specs.Book.{tableOf}
 use Rattle.reading.proofs.blank_table.Statement.{statement}

@@ -1,3 +1,4 @@
+-- `finish` meets its contract: case by case.
 use borrow.Author.Needs.{needs}
 use Rattle.reading.proofs.finish.Statement.{statement}
 use Rattle.reading.proofs.finish.Tie as tie

@@ -1,3 +1,4 @@
+-- `moves` meets its contract: state by state.
 use borrow.Author.Needs.{needs}
 use Rattle.reading.specs.Moved.{moved}
 use Rattle.reading.proofs.moves.Statement.{statement}

@@ -1,3 +1,4 @@
+-- `read_text` meets its contract: what is left of the text, from the state and the table reached so far, comes to what the whole comes to.
 use mathlib.Core.Path.{subst, _≡_, ap, sym, _∙_}
 use Prim.Native.Nat.{_*_, _≤_, _+_}
 use native.Mathlib.Omega.{arith}

@@ -1,3 +1,4 @@
+-- `refused` meets its contract: the refusal, and a blank table.
 use borrow.Author.Needs.{needs}
 use Rattle.reading.proofs.refused.Statement.{statement}
 use Rattle.reading.proofs.refused.Tie as tie

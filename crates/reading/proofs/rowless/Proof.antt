@@ -1,3 +1,4 @@
+-- `rowless` meets its contract: the state, and a blank row.
 use borrow.Author.Needs.{needs}
 use Rattle.reading.proofs.rowless.Statement.{statement}
 use Rattle.reading.proofs.rowless.Tie as tie
