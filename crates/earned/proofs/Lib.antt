@@ -12,3 +12,5 @@ pub mod Upright
 pub mod Exactly
 pub mod Counterexample
 pub mod Promises
+pub mod Falling
+pub mod Rolling
