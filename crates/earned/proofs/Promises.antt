@@ -123,6 +123,10 @@ exact-angles R l w h = grid.fine-enough (loaded R) (upright (loaded R) (fair R l
 pub net-and-pieces : (R : Reading) → Limits R → weighed R ≡ got tt → (q : ℕ) → 0 < q → (roll i j n : ℕ) → startBy q roll (loaded R) ≡ pos q *ℤ start (loaded R) +ℤ pos i → eBy q (loaded R) ≡ q * e (loaded R) + j → pos (e (loaded R)) ≡ start (loaded R) +ℤ pos n → i ≤ q * n → netBy q roll (loaded R) +ℤ sumZ (gusts q (loaded R)) i (pos q *ℤ start (loaded R)) ≡ pos (q * q) *ℤ net (loaded R) +ℤ sumZ (gusts q (loaded R)) j (pos (q * e (loaded R)))
 net-and-pieces R l w q some = gust.pieces q some (loaded R) (upright (loaded R) (fair R l w))
 
+-- The piece left off after e is never below zero, whatever the curve: so u and e never favour the ship.
+pub end-is-earned : (R : Reading) → Limits R → weighed R ≡ got tt → noGust (loaded R) ≡ false → (q : ℕ) → 0 < q → (j : ℕ) × (eBy q (loaded R) ≡ q * e (loaded R) + j) × Le (pos 0) (sumZ (gusts q (loaded R)) j (pos (q * e (loaded R))))
+end-is-earned R l w h q some = gust.end-piece q some (loaded R) (upright (loaded R) (fair R l w)) h
+
 -- ---- what the condition excludes
 -- A text that passes all eight, with a net of +23,824,000 ..
 pub counterexample-passes : answered text ≡ got (record {
