@@ -13,9 +13,6 @@ use Rattle.rules.proofs.Ranges.{s-range, p-range, judged, r-range, phi1-judged}
 use Rattle.roll.proofs.Factors.{p-from}
 
 module _ (c : Loaded) (h : notJudged c ≡ false) where
-  pub product-from : 1090 * 1090 * 420 * 420 * 550 * 350 ≤ product c
-  product-from = mul-le-mul (mul-le-mul (mul-le-mul (mul-le-mul-left (1090 * 1090) (p-from c)) (p-from c)) (r-range c (judged c h) .1)) (s-range c .0)
-
   -- ---- the product, factor by factor
   pub pp-to : 1090 * 1090 * p c * p c ≤ 1090 * 1090 * 1000 * 1000
   pp-to = mul-le-mul (mul-le-mul-left (1090 * 1090) (p-range c)) (p-range c)
@@ -25,6 +22,9 @@ module _ (c : Loaded) (h : notJudged c ≡ false) where
 
   pub product-to : product c ≤ 1090 * 1090 * 1000 * 1000 * 1030 * 1000
   product-to = mul-le-mul ppr-to (s-range c .1)
+
+  pub product-from : 1090 * 1090 * 420 * 420 * 550 * 350 ≤ product c
+  product-from = mul-le-mul (mul-le-mul (mul-le-mul (mul-le-mul-left (1090 * 1090) (p-from c)) (p-from c)) (r-range c (judged c h) .1)) (s-range c .0)
 
   -- ---- its root
   pub angle-range : (64 ≤ phi1 c) × (phi1 c ≤ 350)

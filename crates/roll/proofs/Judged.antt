@@ -24,13 +24,9 @@ module _ (c : Loaded) where
   pub off : outside c ≡ true → notJudged c ≡ true
   off o = by-period ∙ simp o
 
-  pub not-judged : notJudged c ≡ true → NotJudged ≡ rollOf c
+  pub roll-is : (t : Bool) → notJudged c ≡ t → elim t [ true ↦ NotJudged | false ↦ Angle (phi1 c) ] ≡ rollOf c
   unfolding rollOf
-  not-judged e = ap (λ (t : Bool). elim t [ true ↦ NotJudged | false ↦ Angle (phi1 c) ]) (sym e)
-
-  pub judged-angle : notJudged c ≡ false → Angle (phi1 c) ≡ rollOf c
-  unfolding rollOf
-  judged-angle e = ap (λ (t : Bool). elim t [ true ↦ NotJudged | false ↦ Angle (phi1 c) ]) (sym e)
+  roll-is t e = ap (λ (t : Bool). elim t [ true ↦ NotJudged | false ↦ Angle (phi1 c) ]) (sym e)
 
   -- KG too high above the waterline is what is left to ask of the form.
   pub by-height : c .kg < c .km → 10 * c .ship .breadth < 35 * c .draught → 7 * c .draught ≤ 10 * c .kg → ltb (15 * c .draught) (10 * c .kg) ≡ outside c

@@ -11,6 +11,7 @@ use Rattle.rules.specs.Ranges.{Fair, rowAt}
 use Rattle.rules.proofs.Rounding.{ceil-is, ceiling-least}
 use Rattle.rules.proofs.Fields.{both-true, Limited, limited}
 
+-- The limits of 01 on what is worked with here.
 pub record Sized (c : Loaded) : Type 0 where
   pub lengthFrom : 24_000 ≤ c .ship .hullLength
   pub lengthTo : c .ship .hullLength ≤ 400_000

@@ -1,6 +1,6 @@
 -- A table's points as code holds them, met from the point at i on: the table's own steps, by index.
 use mathlib.Core.Path.{_≡_, refl}
-use mathlib.Core.Bool.{Bool, true, false, _&&_}
+use mathlib.Core.Bool.{true}
 use mathlib.Core.List.{List, [], _∷_}
 use Prim.Native.Nat.{ℕ, zero, suc, _+_, _-_, max, _≤_, _<_}
 use native.Mathlib.Omega.{arith}
@@ -9,21 +9,18 @@ use lib.ListN.{length, getD, drop, length-drop}
 use lib.Seq.{drop-cons}
 use borrow.Author.Tests.{leb-true, ltb-true}
 use Rattle.rules.specs.Rounding.{Way, Point, point, line, onward, table}
+use Rattle.rules.proofs.Fields.{both-true}
 use Rattle.rules.proofs.Tables.{near, far}
 use Rattle.rounding.specs.Points.{pointsOf, small, tabled}
 
 -- ---- what is asked of a table
-both : (a b : Bool) → a && b ≡ true → (a ≡ true) × (b ≡ true)
-both true b e = (refl, e)
-both false b e = absurd (let z : _≡_ {A = ℕ} 0 1 = cc in omega arith)
-
 each : (s : List ℕ) → small s ≡ true → (i : ℕ) → getD s i 0 < 65_536
 each [] t i = omega arith
-each (x ∷ s) t zero = ltb-true x 65_536 (both (ltb x 65_536) (small s) t .0)
-each (x ∷ s) t (suc i) = each s (both (ltb x 65_536) (small s) t .1) i
+each (x ∷ s) t zero = ltb-true x 65_536 (both-true (ltb x 65_536) (small s) t .0)
+each (x ∷ s) t (suc i) = each s (both-true (ltb x 65_536) (small s) t .1) i
 
 pub asked : (s : List ℕ) → tabled s ≡ true → (2 ≤ length s) × ((i : ℕ) → getD s i 0 < 65_536)
-asked s t = let b = both (leb 2 (length s)) (small s) t in (leb-true 2 (length s) (b .0), each s (b .1))
+asked s t = let b = both-true (leb 2 (length s)) (small s) t in (leb-true 2 (length s) (b .0), each s (b .1))
 
 -- ---- its steps
 -- The point whose place stands at i.

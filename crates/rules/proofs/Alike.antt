@@ -1,6 +1,6 @@
 -- Lines that are the same before an offset: so are their parts, and so are their heads.
 use mathlib.Core.Path.{_≡_, refl, ap, ap₂, sym, _∙_}
-use mathlib.Core.Bool.{Bool, true, false}
+use mathlib.Core.Bool.{Bool, true, false, cond}
 use mathlib.Core.List.{List, [], _∷_}
 use Prim.Native.Nat.{ℕ, _+_, _-_, _*_, _≤_, _<_}
 use native.Mathlib.Omega.{arith}
@@ -12,7 +12,7 @@ use Rattle.rules.specs.Numbers.{full}
 use Rattle.rules.specs.Answers.{refused, got}
 use Rattle.rules.specs.Walk.{header}
 use Rattle.rules.specs.Parts.{be2, part, headAt}
-use Rattle.rules.specs.Places.{endOf, SameBefore}
+use Rattle.rules.specs.Places.{endOf, SameBefore, lookedAt}
 use Rattle.rules.proofs.Parts.{length-part, header-overrun, header-block}
 
 -- Two lists of one length have something in them, or not.
@@ -41,12 +41,35 @@ part-le a e s i j q = go (ltb i (e - a)) refl
     go true p = rw (part-byte a e s i (ltb-true _ _ p), q) (omega arith)
     go false p = rw (part-none a e s i (ltb-false _ _ p)) (omega arith)
 
--- A block that ends before m ends, in a part, before what the part has of it.
-pub end-part : (a e : ℕ) (s : List ℕ) (i j m : ℕ) → a + i ≡ j → endOf s j ≤ m → endOf (part a e s) i ≤ m - a
+-- A block that ends before m ends, in a part, before what the part has of it; so with what a refusal looks at.
+end-part : (a e : ℕ) (s : List ℕ) (i j m : ℕ) → a + i ≡ j → endOf s j ≤ m → endOf (part a e s) i ≤ m - a
 end-part a e s i j m q h = omega (arith, part-le a e s (i + 1) (j + 1) (omega arith), part-le a e s (i + 1 + 1) (j + 1 + 1) (omega arith))
 
+pub looked-part : (n a e : ℕ) (s : List ℕ) (i j m : ℕ) → a + i ≡ j → lookedAt s n j ≤ m → lookedAt (part a e s) n i ≤ m - a
+looked-part n a e s i j m q h = go (leb n 4) h
+  where
+    go : (c : Bool) → cond c (j + 3) (endOf s j) ≤ m → cond c (i + 3) (endOf (part a e s) i) ≤ m - a
+    go true h = omega arith
+    go false h = end-part a e s i j m q h
+
+-- A refusal looks at a head at least.
+pub looked-head : (n i : ℕ) (s : List ℕ) (m : ℕ) → lookedAt s n i ≤ m → i + 3 ≤ m
+looked-head n i s m h = go (leb n 4) h
+  where
+    go : (c : Bool) → cond c (i + 3) (endOf s i) ≤ m → i + 3 ≤ m
+    go true h = h
+    go false h = omega arith
+
+-- At the first block it looks at the head alone, or to the end.
+pub looked-first : {C : Type 0} (n i : ℕ) (s : List ℕ) (m : ℕ) → lookedAt s n i ≤ m → i ≡ 0 → (n ≤ 4 → C) → (3 + be2 s 1 ≤ m → C) → C
+looked-first {C} n i s m h z f g = go (leb n 4) refl (rw z at h)
+  where
+    go : (c : Bool) → leb n 4 ≡ c → cond c 3 (endOf s 0) ≤ m → C
+    go true p h = f (leb-true n 4 p)
+    go false p h = g h
+
 module _ {m : ℕ} {s s′ : List ℕ} (A : SameBefore m s s′) where
-  part-long : (a e : ℕ) → length (part a e s) ≡ length (part a e s′)
+  pub part-long : (a e : ℕ) → length (part a e s) ≡ length (part a e s′)
   part-long a e = rw (length-take (e - a) (drop a s), length-drop a s, length-take (e - a) (drop a s′), length-drop a s′, A .long)
 
   pub same-part : (a e j : ℕ) → a + j ≤ m → SameBefore j (part a e s) (part a e s′)

@@ -9,7 +9,7 @@ use Rattle.rules.specs.Blocks.{Ship, ship, row, conditionTag}
 use Rattle.rules.specs.Layout.{mostCharacters}
 use Rattle.rules.specs.Answers.{Ans, refused, got}
 use Rattle.rules.specs.Walk.{Found, tableRow, theCondition, frameAt, shipFrame, closed, after, tail, readFrames, read}
-use Rattle.rules.specs.Places.{endOf, SameBefore}
+use Rattle.rules.specs.Places.{SameBefore, lookedAt}
 use Rattle.rules.proofs.Answers.{bind-first, bind-last, bind-got, bind-refused}
 use Rattle.rules.proofs.Frames.{row-tag, ship-tag}
 use Rattle.rules.proofs.Whole.{read-lines}
@@ -18,7 +18,7 @@ use Rattle.rules.proofs.FrameFault.{frame-fault, ship-fault, closed-fau
 
 -- The refusal names line b and offset o, at which the two texts have l and l′; the lines in front are the same; those behind may be anything.
 -- A 5 is that of a block: with no A3 the refusal is the end's, which further lines would change.
-module _ (l l′ : List ℕ) (later later′ : List (List ℕ)) (a b o : ℕ) (A : SameBefore (endOf l o) l l′) (five : a ≡ 5 → getD l 0 0 ≡ conditionTag) where
+module _ (l l′ : List ℕ) (later later′ : List (List ℕ)) (a b o : ℕ) (A : SameBefore (lookedAt l a o) l l′) (five : a ≡ 5 → getD l 0 0 ≡ conditionTag) where
   -- ---- the named line is the first of those left
   -- It is not one behind.
   not-behind : (later : List (List ℕ)) (ln k p : ℕ) → ln ≡ b → (getD l 0 0 ≡ conditionTag → ⊥) → tail later (ln + 1) k p ≡ refused a b o → ⊥
@@ -64,7 +64,7 @@ module _ (l l′ : List ℕ) (later later′ : List (List ℕ)) (a b o : ℕ) (A
       go (got v) h = bind-got _ h ∙ bind-refused _ (tail-fault front 2 0 0 (omega arith) (bind-last _ _ (sym (bind-got _ h) ∙ e)))
 
 pub fault-stands : (front later later′ : List (List ℕ)) (l l′ : List ℕ) (n o : ℕ) → Lines (front ++ (l ∷ later)) → length (text (front ++ (l ∷ later))) ≤ mostCharacters
-    → Lines (front ++ (l′ ∷ later′)) → length (text (front ++ (l′ ∷ later′))) ≤ mostCharacters → SameBefore (endOf l o) l l′ → (n ≡ 5 → getD l 0 0 ≡ conditionTag)
+    → Lines (front ++ (l′ ∷ later′)) → length (text (front ++ (l′ ∷ later′))) ≤ mostCharacters → SameBefore (lookedAt l n o) l l′ → (n ≡ 5 → getD l 0 0 ≡ conditionTag)
     → read (text (front ++ (l ∷ later))) ≡ refused n (1 + length front) o → read (text (front ++ (l′ ∷ later′))) ≡ refused n (1 + length front) o
 fault-stands front later later′ l l′ n o B c B′ c′ A five e =
     read-lines _ B′ c′ ∙ frames-fault l l′ later later′ n (1 + length front) o A five front refl (sym (read-lines _ B c) ∙ e)

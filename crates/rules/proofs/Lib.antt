@@ -25,6 +25,7 @@ pub mod Roll
 pub mod Divisions
 pub mod Ranges
 pub mod Drawing
+pub mod Light
 pub mod Alike
 pub mod EntryFault
 pub mod FrameFault

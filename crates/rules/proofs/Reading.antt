@@ -13,7 +13,7 @@ use Rattle.rules.specs.Answers.{refused, got}
 use Rattle.rules.specs.Walk.{linesFrom, read}
 use Rattle.rules.specs.Loading.{flat, mass, moment, freeSurface, displacement, correctedKG, entriesOf}
 use Rattle.rules.specs.Leaves.{sumLeaves, ungrouped, loadedWith}
-use Rattle.rules.specs.Places.{endOf, LinesFill, SameBefore}
+use Rattle.rules.specs.Places.{LinesFill, SameBefore, lookedAt}
 use Rattle.rules.specs.Met.{Met, Overruns, NoLine}
 use Rattle.rules.specs.Answer.{judged}
 use Rattle.rules.proofs.Whole.{sound, lines-of-reading, reading-unique}
@@ -77,10 +77,10 @@ pub drawing-is-refused : read drawing ≡ refused 2 4 21
 drawing-is-refused = drawing-refused
 
 -- A refusal depends on nothing behind the block that it names. Two texts of lines within 12,000 characters have the same lines before the one that is named; that line has one length in both (it is its frame's parent)
--- and the same bytes before the end of the named block; all that stands behind, in the line and in further lines, may differ: the refusal is the same.
+-- and the same bytes up to the end of the named block (for 2, 4 and 3: of its head); all that stands behind, in the line and in further lines, may differ: the refusal is the same.
 -- Left out is 5 with no A3: it names no block but the text's end, and a further line would change it. Every other 5 stands in the line of an A3. Of 1 the next promise speaks.
 pub first-fault : (front later later′ : List (List ℕ)) (l l′ : List ℕ) (n o : ℕ) → Lines (front ++ (l ∷ later)) → length (text (front ++ (l ∷ later))) ≤ mostCharacters
-    → Lines (front ++ (l′ ∷ later′)) → length (text (front ++ (l′ ∷ later′))) ≤ mostCharacters → SameBefore (endOf l o) l l′ → (n ≡ 5 → getD l 0 0 ≡ conditionTag)
+    → Lines (front ++ (l′ ∷ later′)) → length (text (front ++ (l′ ∷ later′))) ≤ mostCharacters → SameBefore (lookedAt l n o) l l′ → (n ≡ 5 → getD l 0 0 ≡ conditionTag)
     → read (text (front ++ (l ∷ later))) ≡ refused n (1 + length front) o → read (text (front ++ (l′ ∷ later′))) ≡ refused n (1 + length front) o
 first-fault front later later′ l l′ n o B c B′ c′ A five e = fault-stands front later later′ l l′ n o B c B′ c′ A five e
 

@@ -149,9 +149,9 @@ module _ (ln : ℕ) where
   unfolding weatherAt
   weather-refusal t body = test-refusal _ _ _ _ _ (omega arith) (fixed-refusal weather true 3 body)
 
-  -- Inside the condition: at its own offset, or behind its head.
+  -- Inside the condition: 5 at its own offset, or behind its head.
   abbrev Inner : ℕ → ℕ → ℕ → Type 0
-  Inner n l o = Numbered n l o × (l ≡ ln) × (0 < o → 3 ≤ o)
+  Inner n l o = Numbered n l o × (l ≡ ln) × (0 < o → 3 ≤ o) × (n ≤ 4 → 3 ≤ o)
 
   pub inside-refusal : (body : List ℕ) → Refusal Inner (inside ln body)
   unfolding inside loadAt

@@ -1,15 +1,13 @@
 -- `roll::height` meets its contract: nothing on the way to r leaves the machine's signed numbers. Assumes nothing.
-use lib.IntN.{_-ℤ_, _*ℤ_}
-use mir.Val.{ofZ}
-use Rattle.rules.specs.Rounding.{ceilZ}
 use mathlib.Core.Path.{_≡_, _∙_}
 use native.Mathlib.Omega.{arith}
 use lib.Dec.{lt→ltb}
-use lib.IntN.{pos}
+use lib.IntN.{pos, _-ℤ_, _*ℤ_}
 use lib.Signed.{ltZ-yes}
 use mir.Syntax.{w64}
-use mir.Val.{toZ}
+use mir.Val.{toZ, ofZ}
 use mir.ValLaws.{toZ-ofZ, toZ-pos}
+use Rattle.rules.specs.Rounding.{ceilZ}
 use Rattle.book.specs.Book.{loadedOf}
 use Rattle.roll.proofs.Limits.{Sized, sized}
 use Rattle.roll.proofs.Heights.{over-fits, times-fits, sum-fits, sum-is}

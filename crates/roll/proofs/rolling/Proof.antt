@@ -1,11 +1,11 @@
 -- `roll::rolling` meets its contract: each way out is one of the rules. Assumes nothing.
 use mathlib.Core.Path.{_≡_, _∙_, sym, ap}
-use mathlib.Core.Bool.{false}
+use mathlib.Core.Bool.{true, false}
 use Rattle.rules.specs.Roll.{notJudged}
 use Rattle.book.specs.Book.{loadedOf}
 use Rattle.roll.specs.declared.Roll.the-variants.{Angle}
 use Rattle.roll.specs.Rolls.{outside}
-use Rattle.roll.proofs.Judged.{off, slow, swift, stable, not-judged, judged-angle}
+use Rattle.roll.proofs.Judged.{off, slow, swift, stable, roll-is}
 use native.Mathlib.Omega.{arith}
 use borrow.Author.Needs.{needs}
 use Rattle.roll.proofs.rolling.Statement.{statement}
@@ -21,7 +21,7 @@ outside-requires : tie.Need-outside-requires
 outside-requires c κs = search needs
 
 returns : tie.Need-returns
-returns c = not-judged _ (off _ (sym (c .before .outside .ensures) ∙ c .if1 .taken))
+returns c = roll-is _ true (off _ (sym (c .before .outside .ensures) ∙ c .if1 .taken))
 
 ratio-requires : tie.Need-ratio-requires
 ratio-requires c κs = search needs
@@ -30,13 +30,13 @@ period-requires : tie.Need-period-requires
 period-requires c κs = let s = c .before .before .before in (s .pre, stable _ (inside (c .before)), c .ratio .ensures)
 
 returns-2 : tie.Need-returns-2
-returns-2 c = not-judged _ (slow _ (inside (c .before .before .before)) (omega (arith, c .before .period .ensures, c .if2 .taken)))
+returns-2 c = roll-is _ true (slow _ (inside (c .before .before .before)) (omega (arith, c .before .period .ensures, c .if2 .taken)))
 
 angle-requires : tie.Need-angle-requires
 angle-requires c κs = let s = c .before .before .before .before .before in (s .pre, judged c, c .before .before .ratio .ensures, c .before .period .ensures)
 
 returns-3 : tie.Need-returns-3
-returns-3 c = ap Angle (c .angle .ensures) ∙ judged-angle _ (judged (c .before))
+returns-3 c = ap Angle (c .angle .ensures) ∙ roll-is _ false (judged (c .before))
 
 pub rolling-spec : {M : Type 1} → statement M
 rolling-spec =

@@ -1,0 +1,99 @@
+-- An array that holds the curve stands for it in every search and area of document 01.
+use mathlib.Core.Path.{_≡_, refl, ap, sym, _∙_}
+use mathlib.Core.Bool.{Bool, true, false}
+use mathlib.Core.List.{List}
+use Prim.Native.Nat.{ℕ, zero, suc, _+_, _-_, _*_, _≤_, _<_}
+use native.Mathlib.Omega.{arith}
+use lib.ListN.{getD}
+use lib.IntN.{ℤ, pos, negℤ, subℕ, _-ℤ_}
+use lib.Signed.{leZ, ltZ}
+use Rattle.rules.specs.Rounding.{first, firstIn, peak}
+use Rattle.rules.specs.Curve.{Loaded, lever, leverZ, area, E}
+use Rattle.rules.specs.Criteria.{reaches}
+use Rattle.rules.specs.Roll.{stays}
+use Rattle.rules.specs.Ranges.{Fair, rowAt}
+use Rattle.rules.specs.Blocks.{row, weather}
+use Rattle.rules.proofs.Signed.{eq!, sub≡}
+use Rattle.rules.proofs.Searches.{peak-is}
+use Rattle.curve.specs.Levers.{Sized, Holds, held, upTo}
+use Rattle.curve.proofs.Limits.{ok-at, kn-small}
+use Rattle.curve.proofs.Areas.{Odd, upTo-same, leeward, windward}
+
+-- ---- searches see a curve only where they look
+peak-same : (f h : ℕ → ℤ) (t n : ℕ) → ((k : ℕ) → k ≤ t + n → f k ≡ h k) → peak f t n ≡ peak h t n
+unfolding peak
+peak-same f h t zero same = refl
+peak-same f h t (suc n) same =
+    let e = peak-same f h t n (λ k l. same k (omega arith)) in
+    let i = peak-is h t n in
+    ap (λ (m : ℕ). elim (ltZ (f m) (f (t + suc n))) [ true ↦ t + suc n | false ↦ m ]) e
+    ∙ ap (λ (z : ℤ). elim (ltZ z (f (t + suc n))) [ true ↦ t + suc n | false ↦ peak h t n ]) (same (peak h t n) (omega (arith, i .high)))
+    ∙ ap (λ (z : ℤ). elim (ltZ (h (peak h t n)) z) [ true ↦ t + suc n | false ↦ peak h t n ]) (same (t + suc n) (omega arith))
+
+first-same : (p q : ℕ → Bool) (n t : ℕ) → ((k : ℕ) → t ≤ k → k < t + n → p k ≡ q k) → first p n t ≡ first q n t
+unfolding first
+first-same p q zero t same = refl
+first-same p q (suc n) t same =
+    ap (λ (b : Bool). elim b [ true ↦ t | false ↦ first p n (suc t) ]) (same t (omega arith) (omega arith))
+    ∙ ap (λ (m : ℕ). elim (q t) [ true ↦ t | false ↦ m ]) (first-same p q n (suc t) (λ k l h. same k (omega arith) (omega arith)))
+
+firstIn-same : (p q : ℕ → Bool) (t e : ℕ) → ((k : ℕ) → k ≤ e → p k ≡ q k) → firstIn p t e ≡ firstIn q t e
+unfolding firstIn
+firstIn-same p q t e same = first-same p q (suc e - t) t (λ k l h. same k (omega arith))
+
+-- ---- 'y(-t) = -y(t)', at 0 too, where the first KN is 0
+at-zero : (kn : List ℕ) (kg : ℕ) → getD kn 0 0 ≡ 0 → lever kn kg 0 ≡ pos 0
+unfolding lever
+at-zero kn kg upright =
+    let a = 100000 * (getD kn 0 0 * 50 + getD kn 1 0 * 0) in
+    eq! (subℕ a (kg * 0)) (pos 0) (omega (arith, sub≡ a (kg * 0)))
+
+pub lever-odd : (kn : List ℕ) (kg : ℕ) → getD kn 0 0 ≡ 0 → Odd (leverZ kn kg)
+unfolding leverZ
+lever-odd kn kg upright zero = at-zero kn kg upright ∙ ap negℤ (sym (at-zero kn kg upright))
+lever-odd kn kg upright (suc t) = refl
+
+-- ---- the array in place of the curve
+module _ (kn : List ℕ) (kg : ℕ) where
+  module _ (ys : List ℤ) (is : Holds (lever kn kg) ys) where
+    pub held-is : (t : ℕ) → t ≤ 600 → held ys (pos t) ≡ leverZ kn kg (pos t)
+    unfolding held leverZ
+    held-is t h = is .at t h
+
+    pub peak-held : (t n : ℕ) → t + n ≤ 600 → peak (λ k. held ys (pos k)) t n ≡ peak (λ k. leverZ kn kg (pos k)) t n
+    peak-held t n h = peak-same (λ k. held ys (pos k)) (λ k. leverZ kn kg (pos k)) t n (λ k l. held-is k (omega arith))
+
+    pub reaches-held : (level : ℤ) (t e : ℕ) → e ≤ 600 → reaches (held ys) level t e ≡ reaches (leverZ kn kg) level t e
+    unfolding reaches
+    reaches-held level t e h = firstIn-same (λ k. leZ level (held ys (pos k))) (λ k. leZ level (leverZ kn kg (pos k))) t e (λ k l. ap (leZ level) (held-is k (omega arith)))
+
+    pub stays-held : (level : ℤ) (t e : ℕ) → e ≤ 600 → stays (held ys) level t e ≡ stays (leverZ kn kg) level t e
+    unfolding stays
+    stays-held level t e h =
+        ap (λ (n : ℕ). n - 1) (firstIn-same (λ k. ltZ (held ys (pos k)) level) (λ k. ltZ (leverZ kn kg (pos k)) level) t e (λ k l. ap (λ (z : ℤ). ltZ z level) (held-is k (omega arith))))
+
+    pub areas-held : {zs : List ℤ} → Holds (upTo (held ys)) zs → Holds (upTo (leverZ kn kg)) zs
+    areas-held h = record { long = h .long; at = λ n l. h .at n l ∙ upTo-same (held ys) (leverZ kn kg) n (λ t m. held-is t (omega arith)) }
+
+  -- ---- areas by two entries of an array that holds those from 0
+  module _ (zs : List ℤ) (is : Holds (upTo (leverZ kn kg)) zs) where
+    entries : (a e : ℕ) → a ≤ 600 → e ≤ 600 → upTo (leverZ kn kg) e -ℤ upTo (leverZ kn kg) a ≡ getD zs e (pos 0) -ℤ getD zs a (pos 0)
+    entries a e h k = rw (is .at a h, is .at e k)
+
+    pub area-leeward : (a e : ℕ) → a ≤ e → e ≤ 600 → area (leverZ kn kg) (pos a) (pos e) ≡ getD zs e (pos 0) -ℤ getD zs a (pos 0)
+    area-leeward a e h k = leeward (leverZ kn kg) a e h ∙ entries a e (omega arith) k
+
+    -- 'KN .. first one 0', so y(0) is 0 and the curve is its own mirror.
+    pub area-windward : getD kn 0 0 ≡ 0 → (a e : ℕ) → a ≤ 600 → e ≤ 600 → area (leverZ kn kg) (negℤ (pos a)) (pos e) ≡ getD zs e (pos 0) -ℤ getD zs a (pos 0)
+    area-windward upright a e h k = windward (leverZ kn kg) (lever-odd kn kg upright) a e ∙ entries a e h k
+
+-- ---- what a fair ship's curve rests on
+module _ (c : Loaded) (fair : Fair c) where
+  pub fair-sized : Sized (c .kn) (c .kg)
+  fair-sized = record { forms = kn-small (rowAt c) (fair .form); centre = omega (arith, fair .centre) }
+
+  pub fair-upright : getD (c .kn) 0 0 ≡ 0
+  fair-upright = omega (arith, ok-at row (rowAt c) (fair .form) 3 .1)
+
+  pub fair-end : E c ≤ 600
+  fair-end = ok-at weather (c .weather) (fair .sky) 3 .1

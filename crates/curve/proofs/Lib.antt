@@ -1,0 +1,12 @@
+pub mod Areas
+pub mod Curves
+pub mod Filling
+pub mod Interpolation
+pub mod Limits
+pub mod Machine
+pub mod Rows
+pub mod Sizes
+pub mod Steps
+pub mod Straight
+pub mod Weighing
+pub mod Soundness

@@ -1,0 +1,3 @@
+pub mod Weighing
+pub mod Interpolation
+pub mod Levers
