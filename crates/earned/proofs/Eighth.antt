@@ -88,6 +88,17 @@ module _ (q : ℕ) (some : 0 < q) (c : Loaded) (upright : y c (pos 0) ≡ pos 0)
   ends-low : (x x′ : ℤ) → Le x (pos (q * level)) → Le x′ (pos (q * level)) → Le (x -ℤ pos (q * level) +ℤ (x′ -ℤ pos (q * level))) (pos 0)
   ends-low x x′ h k = omega (arith, diff≡ x (pos (q * level)), diff≡ x′ (pos (q * level)), add≡ (x -ℤ pos (q * level)) (x′ -ℤ pos (q * level)))
 
+  -- Where the curve stays at or above lw2, the sum is not below zero.
+  after : (j : ℕ) → ((k : ℕ) → k ≤ j → Le (unitsBy q (lw2 c)) (yBy q c (pos (q * e c + k)))) → Le (pos 0) (sumZ (gusts q c) j (pos (q * e c)))
+  after j up-there = not-negative (gusts q c) j (pos (q * e c)) (λ k l. ends (yBy q c (pos (q * e c + k))) (yBy q c (pos (q * e c + k + 1))) (up-there k (omega arith)) (next k l))
+    where
+      next : (k : ℕ) → k < j → Le (unitsBy q (lw2 c)) (yBy q c (pos (q * e c + k + 1)))
+      next k l = let z : q * e c + suc k ≡ q * e c + k + 1 = omega arith in subst (λ (x : ℕ). Le (unitsBy q (lw2 c)) (yBy q c (pos x))) z (up-there (suc k) l)
+
+  -- So the piece after e never counts against the ship.
+  pub end-piece : noGust c ≡ false → (j : ℕ) × (eBy q c ≡ q * e c + j) × Le (pos 0) (sumZ (gusts q c) j (pos (q * e c)))
+  end-piece gusty = let b = end-beyond q some c upright gusty in (b .0, b .1, after (b .0) (b .2))
+
   -- Where y lies nowhere below -lw2, from the start to phi0 it lies nowhere above lw2.
   module _ (gusty : noGust c ≡ false) (high : NowhereBelow c) where
     calm : (x : ℤ) → Le (pos q *ℤ start c) x → Lt x (pos (phi0By q c)) → Le (yBy q c x) (unitsBy q (lw2 c))
@@ -153,7 +164,7 @@ module _ (q : ℕ) (some : 0 < q) (c : Loaded) (upright : y c (pos 0) ≡ pos 0)
   eighth roll rolling no-more = go (phi0By q c + q * dn (start c) - (roll + q * up (start c))) (omega (arith, start-before q some c upright gusty)) (end-beyond q some c upright gusty)
     where
       go : (i : ℕ) → i + (roll + q * up (start c)) ≡ phi0By q c + q * dn (start c) → ((j : ℕ) × (eBy q c ≡ q * e c + j) × ((k : ℕ) → k ≤ j → Le (unitsBy q (lw2 c)) (yBy q c (pos (q * e c + k))))) → Le (pos 0) (netBy q roll c)
-      go i at (j, end, up-there) = sum (netBy q roll c) (sumZ (gusts q c) i t) (net c) (sumZ (gusts q c) j (pos (q * e c))) (pieces q some c upright roll i j n at-start end wide inside) low after net-from
+      go i at (j, end, up-there) = sum (netBy q roll c) (sumZ (gusts q c) i t) (net c) (sumZ (gusts q c) j (pos (q * e c))) (pieces q some c upright roll i j n at-start end wide inside) low (after q some c upright j up-there) net-from
         where
           t : ℤ
           t = pos q *ℤ start c
@@ -170,13 +181,6 @@ module _ (q : ℕ) (some : 0 < q) (c : Loaded) (upright : y c (pos 0) ≡ pos 0)
             where
               at-step : (x : ℤ) (k : ℕ) → up x + dn (pos q *ℤ start c) ≡ up (pos q *ℤ start c) + k + dn x → k ≤ i → Le (yBy q c x) (unitsBy q (lw2 c))
               at-step x k z l = calm q some c upright gusty high x (omega arith) (omega (arith, up-mull q (start c), dn-mull q (start c)))
-
-          -- After e: not below zero.
-          after : Le (pos 0) (sumZ (gusts q c) j (pos (q * e c)))
-          after = not-negative (gusts q c) j (pos (q * e c)) (λ k l. ends q some c upright (yBy q c (pos (q * e c + k))) (yBy q c (pos (q * e c + k + 1))) (up-there k (omega arith)) (next k l))
-            where
-              next : (k : ℕ) → k < j → Le (unitsBy q (lw2 c)) (yBy q c (pos (q * e c + k + 1)))
-              next k l = let z : q * e c + suc k ≡ q * e c + k + 1 = omega arith in subst (λ (x : ℕ). Le (unitsBy q (lw2 c)) (yBy q c (pos x))) z (up-there (suc k) l)
 
           sum : (x a m b : ℤ) → x +ℤ a ≡ pos (q * q) *ℤ m +ℤ b → Le a (pos 0) → Le (pos 0) b → Le (pos 0) m → Le (pos 0) x
           sum x a m b h low after k = omega (arith, ap up h, ap dn h, add≡ x a, add≡ (pos (q * q) *ℤ m) b, up-mull (q * q) m, dn-mull (q * q) m, mul-le-mul-left (q * q) k)

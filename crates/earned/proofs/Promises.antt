@@ -1,5 +1,5 @@
 -- Which roundings favour the ship: what is proved, to be read without the proofs. Each theorem has a sentence above it, and its proof stands elsewhere.
--- Its words are defined in specs/: Order (hulls over a denominator), Verdicts (criteria 1 to 4, 6 and 7 over one), Exact (the values of a reading before they are rounded), Limits (metre-radians), Gust (criterion 8 at parts of a tenth).
+-- Its words are defined in specs/: Order (hulls over a denominator), Verdicts (criteria 1 to 4, 6 and 7 over one), Exact (the values of a reading before they are rounded), Limits (metre-radians), Gust (criterion 8 at parts of a tenth), Rolling (the roll before it is rounded).
 use mathlib.Core.Path.{_≡_, refl}
 use mathlib.Core.Bool.{true, false}
 use mathlib.Core.List.{[], _∷_}
@@ -16,7 +16,7 @@ use Rattle.rules.specs.Walk.{read}
 use Rattle.rules.specs.Loading.{weighed}
 use Rattle.rules.specs.Curve.{Loaded, loaded}
 use Rattle.rules.specs.Criteria.{code, passes5}
-use Rattle.rules.specs.Roll.{phi1, start, e, net, notJudged, noGust}
+use Rattle.rules.specs.Roll.{period, phi1, start, e, net, notJudged, noGust}
 use Rattle.rules.specs.Report.{pass, void, verdict, verdict8, judgement}
 use Rattle.rules.specs.Ranges.{Fair}
 use Rattle.rules.specs.Answer.{answered}
@@ -29,6 +29,7 @@ use Rattle.earned.specs.Exact.{over, exact, Fractions}
 use Rattle.earned.specs.Limits.{PiFrom, PiTo, Covers}
 use Rattle.earned.specs.Example.{text, reading}
 use Rattle.earned.specs.Gust.{startBy, eBy, netBy, gusts, Exactly, NowhereBelow}
+use Rattle.earned.specs.Rolling.{NoShorter, WithinRoll}
 use Rattle.earned.proofs.Order as orders
 use Rattle.earned.proofs.Keeps as keeping
 use Rattle.earned.proofs.Exact as exacts
@@ -36,6 +37,7 @@ use Rattle.earned.proofs.Limits as limits
 use Rattle.earned.proofs.Fifth as angle
 use Rattle.earned.proofs.Upright.{upright}
 use Rattle.earned.proofs.Eighth as gust
+use Rattle.earned.proofs.Rolling as rolling
 use Rattle.earned.proofs.Exactly as grid
 use Rattle.earned.proofs.Counterexample as counter
 
@@ -105,6 +107,14 @@ roll-from c h = gust.roll-from c (judged c h)
 pub eighth-is-earned : (R : Reading) → Limits R → weighed R ≡ got tt → NowhereBelow (loaded R) → verdict8 (loaded R) ≡ pass → (q : ℕ) → 0 < q → (roll : ℕ) → 0 < roll → roll ≤ q * phi1 (loaded R) → Le (pos 0) (netBy q roll (loaded R))
 eighth-is-earned R l w high v q some = gust.eighth q some (loaded R) (upright (loaded R) (fair R l w)) v high
 
+-- The exact roll is such a roll: with k, X1, X2 and s by tables that are not rounded, over any M, at a B/d and a keel index that are not rounded and at any period x / D no shorter than the one used; with r and the root not rounded. All from the d, KM and KG used.
+pub roll-is-earned : (R : Reading) → Limits R → weighed R ≡ got tt → notJudged (loaded R) ≡ false → (M D x : ℕ) → 0 < D → D * period (loaded R) ≤ x → (q roll : ℕ) → WithinRoll M D x (loaded R) q roll → roll ≤ q * phi1 (loaded R)
+roll-is-earned R l w h = rolling.roll-least (loaded R) (fair R l w) (judged (loaded R) h)
+
+-- And the exact period, with b, C and q not rounded, is no shorter than the one used.
+pub period-is-earned : (R : Reading) → Limits R → weighed R ≡ got tt → notJudged (loaded R) ≡ false → (D x : ℕ) → NoShorter D x (loaded R) → D * period (loaded R) ≤ x
+period-is-earned R l w h = rolling.period-least (loaded R) (fair R l w) (judged (loaded R) h)
+
 -- There are parts fine enough, and so is any multiple of them: there phi0 is where the curve has lw1, and e where it falls below lw2, or min(E, 500). So b - a itself, at its exact angles, is among these figures.
 pub exact-angles : (R : Reading) → Limits R → weighed R ≡ got tt → noGust (loaded R) ≡ false → (Q : ℕ) × (0 < Q) × ((k : ℕ) → 0 < k → Exactly (k * Q) (loaded R))
 exact-angles R l w h = grid.fine-enough (loaded R) (upright (loaded R) (fair R l w)) h
@@ -112,6 +122,10 @@ exact-angles R l w h = grid.fine-enough (loaded R) (upright (loaded R) (fair R l
 -- b - a, q² times, is the net used, less the piece from the start used to the exact one, i parts wide, and with the piece left off after e, j parts wide.
 pub net-and-pieces : (R : Reading) → Limits R → weighed R ≡ got tt → (q : ℕ) → 0 < q → (roll i j n : ℕ) → startBy q roll (loaded R) ≡ pos q *ℤ start (loaded R) +ℤ pos i → eBy q (loaded R) ≡ q * e (loaded R) + j → pos (e (loaded R)) ≡ start (loaded R) +ℤ pos n → i ≤ q * n → netBy q roll (loaded R) +ℤ sumZ (gusts q (loaded R)) i (pos q *ℤ start (loaded R)) ≡ pos (q * q) *ℤ net (loaded R) +ℤ sumZ (gusts q (loaded R)) j (pos (q * e (loaded R)))
 net-and-pieces R l w q some = gust.pieces q some (loaded R) (upright (loaded R) (fair R l w))
+
+-- The piece left off after e is never below zero, whatever the curve: so u and e never favour the ship.
+pub end-is-earned : (R : Reading) → Limits R → weighed R ≡ got tt → noGust (loaded R) ≡ false → (q : ℕ) → 0 < q → (j : ℕ) × (eBy q (loaded R) ≡ q * e (loaded R) + j) × Le (pos 0) (sumZ (gusts q (loaded R)) j (pos (q * e (loaded R))))
+end-is-earned R l w h q some = gust.end-piece q some (loaded R) (upright (loaded R) (fair R l w)) h
 
 -- ---- what the condition excludes
 -- A text that passes all eight, with a net of +23,824,000 ..

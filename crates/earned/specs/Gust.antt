@@ -1,4 +1,4 @@
--- Criterion 8 against the Code's b - a: 01's own sentences, with a q-th part of a tenth of a degree where they say a tenth. The wind levers and phi1 are those used.
+-- Criterion 8 against the Code's b - a: 01's own sentences, with a q-th part of a tenth of a degree where they say a tenth. The wind levers are those used, and the roll is phi1 or less.
 -- At q-ths y is q times as high, and an area q² times as great.
 use mathlib.Core.Path.{_≡_}
 use mathlib.Core.List.{List}

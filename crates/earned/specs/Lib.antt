@@ -3,4 +3,5 @@ pub mod Verdicts
 pub mod Exact
 pub mod Limits
 pub mod Gust
+pub mod Rolling
 pub mod Example

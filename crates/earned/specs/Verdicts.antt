@@ -61,6 +61,6 @@ abbrev pub used : Loaded → Hull
 used c = record { kn = c .kn; km = c .km; kg = c .kg; lw1 = criteria.lw1 c }
 
 -- ---- exact values
--- Over D, these lie behind the numbers used: KG and lw1 were rounded up to them, or not at all; KN and KM down.
+-- Over D, these lie behind the numbers used: KG and lw1 no greater, KN and KM no less.
 abbrev pub Behind : ℕ → Hull → Loaded → Type 0
 Behind D h c = Better D 1 (used c) h
