@@ -22,23 +22,32 @@ fn read_input(buf: &mut [u8]) -> Input
         if got < 0 {
             return Input::Failed;
         }
-        if got == 0 {
+        let more = io::count(got, rest);
+        if more == 0 {
             return Input::Text(n);
         }
-        n = n + io::count(got, rest);
+        n = n + more;
     }
     Input::Text(n)
 }
 
-fn main() {
-    let mut text = [0u8; 12001];
-    let Input::Text(n) = read_input(&mut text) else {
-        os::fail(b"rostblume: standard input");
-        return;
-    };
+fn print_report(text: &[u8]) {
     let mut report = [0u8; 209];
-    instrument::judge(&text[..n], &mut report);
+    instrument::judge(text, &mut report);
     if !io::write_all(STDOUT_FILENO, &report) {
         os::fail(b"rostblume: standard output");
     }
+}
+
+fn judge_input(buf: &mut [u8]) {
+    let input = read_input(buf);
+    match input {
+        Input::Text(n) => print_report(&buf[..n]),
+        Input::Failed => os::fail(b"rostblume: standard input"),
+    }
+}
+
+fn main() {
+    let mut text = [0u8; 12001];
+    judge_input(&mut text);
 }

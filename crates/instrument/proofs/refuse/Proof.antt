@@ -26,8 +26,8 @@ returns c =
     record {
       numbered = refl;
       reported = w .write .ensures
-     ∙ ap (λ (j : Judgement). reportLine (a .refusal .number) (a .refusal .line) (a .refusal .offset) (j .verdicts) (j .figures) ++ drop reportLength (now (a .report))) (w .before .no-judgement .ensures)
-     ∙ ap (_++ drop reportLength (now (a .report))) (sym (report-refused (a .refusal .number) (a .refusal .line) (a .refusal .offset)));
+          ∙ ap (λ (j : Judgement). reportLine (a .refusal .number) (a .refusal .line) (a .refusal .offset) (j .verdicts) (j .figures) ++ drop reportLength (now (a .report))) (w .before .no-judgement .ensures)
+          ∙ ap (_++ drop reportLength (now (a .report))) (sym (report-refused (a .refusal .number) (a .refusal .line) (a .refusal .offset)));
     }
 
 pub refuse-spec : {M : Type 1} → statement M
