@@ -1,12 +1,11 @@
 -- Criterion 8, way by way: where it is not judged, where it fails at once, and how far its angles and its areas reach where it has a net area.
 use mathlib.Core.Path.{_≡_, refl, ap, sym, _∙_}
-use mathlib.Core.Bool.{Bool, true, false, _||_}
+use mathlib.Core.Bool.{Bool, true, false}
 use Prim.Native.Nat.{ℕ, suc, _+_, _*_, _^_, _≤_, _<_}
 use native.Mathlib.Omega.{arith}
 use native.Mathlib.Nat.{mul-le-mul}
-use lib.Dec.{ltb}
 use lib.IntN.{ℤ, pos, negsuc, negℤ, natAbs, _-ℤ_, _*ℤ_}
-use lib.Signed.{leZ, mag}
+use lib.Signed.{leZ}
 use borrow.Author.Tests.{lt-ltb, le-ltb}
 use Rattle.rules.specs.Curve.{Loaded, y, E, area}
 use Rattle.rules.specs.Criteria.{lw1, lw2, units, phi0}

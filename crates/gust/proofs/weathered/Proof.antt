@@ -5,7 +5,6 @@ use native.Mathlib.Omega.{arith}
 use borrow.Author.Needs.{needs}
 use lib.IntN.{pos}
 use mir.Syntax.{w64}
-use mir.Val.{toZ}
 use mir.Facts.{toZ-pos}
 use Rattle.rules.specs.Curve.{Loaded}
 use Rattle.rules.specs.Roll.{notJudged, phi1}
