@@ -12,7 +12,7 @@ use Rattle.rules.specs.Roll.{start, e}
 use Rattle.book.specs.Book.{loadedOf}
 use Rattle.curve.specs.Levers.{upTo}
 use Rattle.gust.proofs.Machine.{fits}
-use Rattle.gust.proofs.Gusts.{end-range, start-tilt, area-from, area-within}
+use Rattle.gust.proofs.Angles.{end-range, start-tilt, area-from, area-within}
 use Rattle.gust.proofs.area_from.Statement.{statement}
 use Rattle.gust.proofs.area_from.Tie as tie
 
