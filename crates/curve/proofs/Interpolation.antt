@@ -1,13 +1,11 @@
--- Between the two rows around W: their values are of two bytes, and the table's straight line is theirs.
+-- The table's straight line at W is that of the two rows around W.
 use mathlib.Core.Path.{_≡_, ap, sym, _∙_, subst}
-use mathlib.Core.Bool.{Bool, true, _&&_}
+use mathlib.Core.Bool.{true}
 use mathlib.Core.List.{List, [], _∷_, _++_, map, map-append}
 use Prim.Native.Nat.{ℕ, zero, suc, _+_, _-_, _≤_, _<_}
 use native.Mathlib.Omega.{arith}
-use lib.Dec.{T, leb, leb→le}
 use lib.ListN.{length, getD, take, drop}
 use lib.Seq.{drop-cons, split-at}
-use mir.Facts.{and-yes}
 use Rattle.rules.specs.Rounding.{down, Point, point, span, gap, line}
 use Rattle.rules.specs.Layout.{Rising}
 use Rattle.rules.specs.Blocks as rules
@@ -23,38 +21,15 @@ use Rattle.book.specs.declared.Weather.{Weather}
 use Rattle.book.specs.declared.Table.{Table}
 use Rattle.curve.specs.Weighing.{Whole}
 use Rattle.curve.specs.Interpolation.{noRow, rowAt, Around, Neighbours, between, knBetween}
-use Rattle.curve.proofs.Limits.{fieldAt, ok-at}
+use Rattle.curve.proofs.Limits.{mass-most}
 use Rattle.curve.proofs.Rows.{rows-long, row-at}
-
--- ---- a row within its limits
-abbrev lower : ℕ → List rules.Field → Bool
-lower n [] = true
-lower n (f ∷ fs) = leb (f .high) n && lower n fs
-
-field-lower : (n : ℕ) (fs : List rules.Field) → T (lower n fs) → (i : ℕ) → fieldAt fs i .high ≤ n
-field-lower n [] t i = omega arith
-field-lower n (f ∷ fs) t zero = leb→le (f .high) n (and-yes (leb (f .high) n) (lower n fs) t .0)
-field-lower n (f ∷ fs) t (suc i) = field-lower n fs (and-yes (leb (f .high) n) (lower n fs) t .1) i
-
-module _ (r : rules.Row) (fine : rules.ok rules.row r ≡ true) where
-  pub mass-most : r .mass ≤ 600_000_000
-  mass-most = ok-at rules.row r fine 0 .1
-
-  pub draught-small : r .draught < 65_536
-  draught-small = omega (arith, ok-at rules.row r fine 1 .1)
-
-  pub km-small : r .km < 65_536
-  km-small = omega (arith, ok-at rules.row r fine 2 .1)
-
-  pub kn-small : (i : ℕ) → getD (r .kn) i 0 < 65_536
-  kn-small i = omega (arith, ok-at rules.row r fine (suc (suc (suc i))) .1, field-lower 30_000 (drop 3 (rules.row .fields)) tt i)
 
 -- ---- two rows with W between them
 pub lies-between : (a b : Row) (w : ℕ) → Neighbours a b w → (v u : ℕ) → v < 65_536 → u < 65_536 → Between (a .mass) v (b .mass) u w
 lies-between a b w n v u h k = record { rise = n .rise; from = n .from; to = n .to; far = mass-most (rowOf b) (n .upper); first = h; second = k }
 
 -- ---- rising rows, by number
-pub rising-ok : (m : ℕ) (rows : List rules.Row) (d : rules.Row) → Rising m rows → (i : ℕ) → i < length rows → rules.ok rules.row (getD rows i d) ≡ true
+rising-ok : (m : ℕ) (rows : List rules.Row) (d : rules.Row) → Rising m rows → (i : ℕ) → i < length rows → rules.ok rules.row (getD rows i d) ≡ true
 unfolding Rising
 rising-ok m [] d h i l = absurd (omega arith)
 rising-ok m (r ∷ rows) d h zero l = h .0
@@ -94,7 +69,7 @@ module _ (t : Table) (whole : Whole t) (w i : ℕ) (around : Around t w i) where
   fewer : i < length (rowsOf t)
   fewer = omega (arith, rows-long t whole, around .last)
 
-  pub row-ok : (k : ℕ) → k < t .count → rules.ok rules.row (rowOf (rowAt t k)) ≡ true
+  row-ok : (k : ℕ) → k < t .count → rules.ok rules.row (rowOf (rowAt t k)) ≡ true
   row-ok k l = subst (λ (r : rules.Row). rules.ok rules.row r ≡ true) (row-at t whole k l) (rising-ok 0 (rowsOf t) (rowOf noRow) (whole .rising) k (omega (arith, rows-long t whole)))
 
   before : suc (i - 1) ≡ i
@@ -115,7 +90,7 @@ module _ (t : Table) (whole : Whole t) (w i : ℕ) (around : Around t w i) where
     to = around .to;
   }
 
-  pub between-rows : (f : rules.Row → ℕ) → curve.between (rowsOf t) f w ≡ between (rowAt t (i - 1)) (rowAt t i) f w
+  between-rows : (f : rules.Row → ℕ) → curve.between (rowsOf t) f w ≡ between (rowAt t (i - 1)) (rowAt t i) f w
   between-rows f =
       line-of (rowsOf t) (rowOf noRow) (i - 1) (omega (arith, fewer, before)) f 0 w (whole .rising)
       (omega (arith, around .from, ap (λ (r : rules.Row). r .mass) first-row))

@@ -27,12 +27,12 @@ module _ (t : Table) (whole : Whole t) where
   row-at i h = List·getD-map rowOf (take (t .count) (t .rows)) i noRow ∙ ap rowOf (getD-take (t .count) (t .rows) i noRow h)
 
 -- ---- the first and the last
-pub first-at : (rows : List rules.Row) → firstMass rows ≡ getD rows 0 (rowOf noRow) .mass
+first-at : (rows : List rules.Row) → firstMass rows ≡ getD rows 0 (rowOf noRow) .mass
 unfolding firstMass
 first-at [] = refl
 first-at (r ∷ rows) = refl
 
-pub last-at : (rows : List rules.Row) → lastMass rows ≡ getD rows (length rows - 1) (rowOf noRow) .mass
+last-at : (rows : List rules.Row) → lastMass rows ≡ getD rows (length rows - 1) (rowOf noRow) .mass
 unfolding lastMass
 last-at [] = refl
 last-at (r ∷ []) = refl

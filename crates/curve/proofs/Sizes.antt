@@ -25,7 +25,7 @@ parts (negsuc n) = omega arith
 pub abs-add : (a b : ℤ) → natAbs (a +ℤ b) ≤ natAbs a + natAbs b
 abs-add a b = omega (arith, parts a, parts b, parts (a +ℤ b), up-add a b, dn-add a b)
 
-pub abs-times : (q : ℕ) (a : ℤ) → natAbs (pos q *ℤ a) ≡ q * natAbs a
+abs-times : (q : ℕ) (a : ℤ) → natAbs (pos q *ℤ a) ≡ q * natAbs a
 abs-times q a = rw (parts (pos q *ℤ a), parts a, up-mull, dn-mull) (omega arith)
 
 pub abs-difference : (a b : ℕ) → natAbs (subℕ a b) ≤ a + b
@@ -58,7 +58,7 @@ entry-below n [] h t i = h
 entry-below n (x ∷ xs) h t zero = ltb→lt x n (and-yes (ltb x n) (below n xs) t .0)
 entry-below n (x ∷ xs) h t (suc i) = entry-below n xs h (and-yes (ltb x n) (below n xs) t .1) i
 
-pub sine-small : (i : ℕ) → getD sines i 0 < 100000
+sine-small : (i : ℕ) → getD sines i 0 < 100000
 sine-small = entry-below 100000 sines (omega arith) tt
 
 -- The two products of a lever at a station.

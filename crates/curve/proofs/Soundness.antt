@@ -1,19 +1,23 @@
--- A reading within its limits gives a whole table and sums that the machine can hold.
+-- A reading within its limits gives a whole table and sums that the machine can hold; and what is worked out of them is what the rules say of the reading.
 use mathlib.Core.Path.{_≡_, refl, ap, _∙_}
 use mathlib.Core.Bool.{Bool, true, false, cond, _&&_}
 use mathlib.Core.List.{List, [], _∷_, map}
 use Prim.Native.Nat.{ℕ, _-_, _*_, _≤_}
 use native.Mathlib.Omega.{arith}
 use native.Mathlib.Nat.{mul-le-mul, mul-le-mul-left, mul-le-mul-right}
-use lib.Dec.{ltb}
+use lib.Dec.{leb, ltb}
 use lib.ListN.{length, length-append, length-map, length-replicate}
 use lib.Seq.{take-at}
 use Rattle.rules.specs.Layout.{Entries, end, leaf, group, Good, leaves, Reading, Limits}
-use Rattle.rules.specs.Loading.{Entry, flat, total, mass, moment, freeSurface, nominallyFull}
+use Rattle.rules.specs.Answers.{got, test}
+use Rattle.rules.specs.Loading.{Entry, flat, total, mass, moment, freeSurface, nominallyFull, inTable, displacement, correctedKG, greatestKG, entriesOf, weighed}
+use Rattle.rules.specs.Curve.{loadedAt, loaded}
 use Rattle.rules.specs.Blocks as rules
+use Rattle.rules.proofs.Answers.{test-inv}
 use Rattle.rules.proofs.Sums.{total-append}
 use Rattle.book.specs.Book.{rowOf, rowsOf, plainRow, tableOf, sumsOf}
-use Rattle.curve.specs.Weighing.{Whole, Sound}
+use Rattle.curve.specs.Weighing.{Whole, Sound, weighedOf, Weighs}
+use Rattle.curve.proofs.Weighing.{weighs}
 use Rattle.curve.proofs.Limits.{ok-at}
 
 -- ---- the table
@@ -26,7 +30,7 @@ module _ (rows : List rules.Row) where
   unfolding rowsOf tableOf
   table-rows = ap (map rowOf) (take-at (map plainRow rows) _ (length rows) (length-map rows plainRow)) ∙ back rows
 
-  pub table-long : length rows ≤ 40 → length (tableOf rows .rows) ≡ 40
+  table-long : length rows ≤ 40 → length (tableOf rows .rows) ≡ 40
   unfolding tableOf
   table-long h = simp (length-append, length-map, length-replicate) (omega arith)
 
@@ -77,3 +81,17 @@ sound r l =
         moments = omega (arith, most moment (600_000_000 * 60_000) moments F g m, most freeSurface (1000 * 2_000 * 100_000) surfaces F g m);
       };
     }
+
+-- ---- a reading, handed on as plain data
+module _ (r : Reading) where
+  pub reading-weighs : Weighs r (weighedOf (rowsOf (tableOf (r .rows))) (sumsOf (r .condition .load)))
+  reading-weighs = rw (table-rows (r .rows)) (weighs r)
+
+  pub reading-in-table : weighed r ≡ got tt → inTable (rowsOf (tableOf (r .rows))) (displacement (entriesOf r)) ≡ true
+  unfolding weighed
+  reading-in-table e =
+      rw (table-rows (r .rows)) (test-inv (inTable (r .rows) (displacement (entriesOf r))) 7 0 0 (test (leb (correctedKG (entriesOf r)) greatestKG) 8 0 0) e .0)
+
+  pub reading-loaded : loadedAt (r .ship) (rowsOf (tableOf (r .rows))) (r .condition .weather) (displacement (entriesOf r)) (correctedKG (entriesOf r)) ≡ loaded r
+  unfolding loaded
+  reading-loaded = rw (table-rows (r .rows))

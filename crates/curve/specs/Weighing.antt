@@ -41,6 +41,7 @@ refusal n = record { number = n; line = 0; offset = 0 }
 abbrev pub kgOf : Sums → ℕ
 kgOf s = ceil (s .moment + s .free) (s .mass)
 
+-- '.. then 7; then 8.'
 unfoldable pub weighedOf : List Row → Sums → Weighed
 weighedOf rows s = cond (inTable rows (s .mass)) (cond (leb (kgOf s) greatestKG) (Fine (s .mass) (kgOf s)) (Refused (refusal 8))) (Refused (refusal 7))
 

@@ -1,5 +1,5 @@
 -- Laws of answers: what `>>=` and `test` come to where the first part is known, and what it must have been where the whole is.
-use mathlib.Core.Path.{_≡_, refl}
+use mathlib.Core.Path.{_≡_, refl, sym}
 use mathlib.Core.Bool.{Bool, true, false}
 use Prim.Native.Nat.{ℕ}
 use native.Mathlib.Omega.{arith}
@@ -19,6 +19,24 @@ pub test-inv : {B : Type 0} (c : Bool) (n l o : ℕ) (k : Ans B) {b : B} → (te
 unfolding _>>_ test
 test-inv true n l o k e = (refl, e)
 test-inv false n l o k e = refused-got e
+
+-- Where the first part refuses, its refusal is the whole's.
+pub bind-first : {A B : Type 0} (m : Ans A) (k : A → Ans B) {x y z n l o : ℕ} → m ≡ refused x y z → (m >>= k) ≡ refused n l o → m ≡ refused n l o
+unfolding _>>=_
+bind-first (refused x′ y′ z′) k h e = cc
+bind-first (got a) k h e = refused-got (sym h)
+
+-- What ends in `got` refuses only where its first part does.
+pub bind-last : {A B : Type 0} (m : Ans A) (f : A → B) {n l o : ℕ} → (m >>= λ a. got (f a)) ≡ refused n l o → m ≡ refused n l o
+unfolding _>>=_
+bind-last (refused n′ l′ o′) f e = cc
+bind-last (got a) f e = refused-got (sym e)
+
+-- A refusal at another offset is not this test's.
+pub test-passed : {B : Type 0} (c : Bool) (n l o : ℕ) (k : Ans B) {n′ l′ o′ : ℕ} → (o ≡ o′ → ⊥) → (test c n l o >> k) ≡ refused n′ l′ o′ → (c ≡ true) × (k ≡ refused n′ l′ o′)
+unfolding _>>_ test
+test-passed true n l o k h e = (refl, e)
+test-passed false n l o k {o′ = o′} h e = absurd (h (let z : o ≡ o′ = cc in z))
 
 -- ---- forwards
 pub bind-got : {A B : Type 0} {m : Ans A} {a : A} (k : A → Ans B) → m ≡ got a → (m >>= k) ≡ k a

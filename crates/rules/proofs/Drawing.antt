@@ -1,11 +1,11 @@
 -- The surveyor's drawing: a group of two tanks inside a group that ends behind its first tank. The inner group's length runs past its parent, and not past the line.
 use mathlib.Core.Path.{_≡_, refl}
 use mathlib.Core.List.{List, [], _∷_, _++_}
-use Prim.Native.Nat.{ℕ, _≤_}
+use Prim.Native.Nat.{ℕ, _-_, _≤_}
 use native.Mathlib.Omega.{arith}
 use lib.ListN.{length}
 use Rattle.rules.specs.Blocks.{block, spellValues, within, ok, spellBlock, Ship, Row, conditionTag, Weather, weather, Tank, tank, entry, groupTag}
-use Rattle.rules.specs.Layout.{end, spell, leaves, depth, Good, Rising, mostCharacters}
+use Rattle.rules.specs.Layout.{end, spell, leaves, depth, Good, Rising, mostDepth, mostEntries, mostCharacters}
 use Rattle.rules.specs.Answers.{refused, got}
 use Rattle.rules.specs.Walk.{linesFrom, read}
 use Rattle.rules.specs.Met.{Passed, behind, nestedIn, behindRows, lead, Met, entryBlock, Overruns}
@@ -53,7 +53,7 @@ drawn-met : Met drawn 4 21 held
 unfolding block spellBlock spellValues spell leaves Rising ok within
 drawn-met =
     entryBlock hull rows sky (block groupTag held ++ spellBlock (entry tank) aTank) [] (record { hull = refl; rising = (refl, omega arith, (refl, omega arith, tt)); many = omega arith }) (omega arith) refl (omega arith)
-    (nestedIn end held (spellBlock (entry tank) aTank) (nothing 4 200) (omega arith) (behind end held (nothing 3 200)))
+    (nestedIn end held (spellBlock (entry tank) aTank) (nothing mostDepth mostEntries) (omega arith) (behind end held (nothing (mostDepth - 1) mostEntries)))
 
 drawn-overruns : Overruns held
 unfolding block spellBlock spellValues

@@ -4,7 +4,7 @@ use mathlib.Core.Bool.{Bool, true, false, cond}
 use mathlib.Core.List.{List, [], _∷_, _++_, append-nil}
 use Prim.Native.Nat.{ℕ, _+_, _-_, _≤_, _<_}
 use native.Mathlib.Omega.{arith}
-use lib.ListN.{length}
+use lib.ListN.{length, getD}
 use lib.Dec.{eqb}
 use borrow.Author.Tests.{ltb-true, leb-true, eqb-true, lt-ltb, le-leb}
 use Rattle.rules.specs.Numbers.{Bytes}
@@ -15,7 +15,7 @@ use Rattle.rules.specs.Answers.{Ans, refused, got, _>>=_}
 use Rattle.rules.specs.Walk.{Head, header, inside, conditionIn, fixedIn, shipFrame, rowIn, Frame, aRow, aCondition, frameOf, Found, tableRow, theCondition, found, frameAt, closed, Tail, after, tail, readFrames}
 use Rattle.rules.proofs.Answers.{refused-got, bind-inv, test-inv, bind-got, test-got}
 use Rattle.rules.proofs.Fields.{Lawful, length-fits, ship-lawful, row-lawful}
-use Rattle.rules.proofs.Heads.{Bytes-block, Bytes-fixed, header-sound, header-got, fixed-sound, fixed-got}
+use Rattle.rules.proofs.Heads.{Bytes-block, Bytes-fixed, header-sound, header-got, header-tag, fixed-sound, fixed-got}
 use Rattle.rules.proofs.Conditions.{Bytes-condition, inside-sound, inside-got}
 
 -- ---- a frame that fills its line
@@ -58,6 +58,25 @@ frameOf-sound ln t x e = go (eqb t (row .tag)) (eqb t conditionTag) refl refl e
     go true b p q e = let z : aRow ≡ x = cc in rw (← z) (sym (eqb-true _ _ p))
     go false true p q e = let z : aCondition ≡ x = cc in rw (← z) (sym (eqb-true _ _ q))
     go false false p q e = refused-got e
+
+-- The tags of a frame that is read as a row's, and of the ship's.
+pub row-tag : (ln k p : ℕ) (l : List ℕ) (v : Row) → frameAt ln k p l ≡ got (tableRow v) → getD l 0 0 ≡ row .tag
+unfolding frameAt found
+row-tag ln k p l v e =
+    let a = bind-inv _ _ e in
+    let b = bind-inv _ _ (a .2) in
+    header-tag ln 0 l (a .0) (a .1) ∙ go (a .0) (b .0) (frameOf-sound ln (a .0 .tag) (b .0) (b .1)) (b .2)
+  where
+    go : (h : Head) (t : Frame) → code t ≡ h .tag → found ln k p h t ≡ got (tableRow v) → h .tag ≡ row .tag
+    go h aRow c e = sym c
+    go h aCondition c e = absurd (let x = bind-inv _ _ (test-inv _ _ _ _ _ e .1) in let z : _≡_ {A = ℕ} 0 1 = cc in omega arith)
+
+pub ship-tag : (ln : ℕ) (l : List ℕ) (v : Ship) → shipFrame ln l ≡ got v → getD l 0 0 ≡ ship .tag
+unfolding shipFrame
+ship-tag ln l v e =
+    let a = bind-inv _ _ e in
+    let b = test-inv _ _ _ _ _ (a .2) in
+    header-tag ln 0 l (a .0) (a .1) ∙ eqb-true _ _ (b .0)
 
 closed-sound : (ln : ℕ) (ls : List (List ℕ)) (u : Unit {0}) → closed ln ls ≡ got u → ls ≡ []
 unfolding closed

@@ -5,7 +5,7 @@ use Prim.Native.Nat.{ℕ, zero, suc, _+_, _-_, _≤_, _<_}
 use native.Mathlib.Omega.{arith}
 use lib.ListN.{length}
 use Rattle.rules.specs.Blocks.{block}
-use Rattle.rules.specs.Layout.{end, leaf, group}
+use Rattle.rules.specs.Layout.{end, leaf, group, leaves}
 use Rattle.rules.specs.Answers.{got, _>>=_}
 use Rattle.rules.specs.Walk.{Head, header, Block, one, nest, blockAt, Walk, step, walk, entries}
 use Rattle.rules.proofs.Answers.{bind-got, bind-cong}
@@ -18,7 +18,9 @@ Same m w w′ = (d n at : ℕ) (s : List ℕ) → length s < m → w d n at s �
 step-same : (ln m : ℕ) (w w′ : Walk) → Same m w w′ → (d n at : ℕ) (h : Head) (b : Block) → length (h .body) < m → length (h .rest) < m → step ln w d n at h b ≡ step ln w′ d n at h b
 unfolding step
 step-same ln m w w′ S d n at h (one k v) a b = ap (_>>= (λ r. got (leaf k v r))) (S _ _ _ (h .rest) b)
-step-same ln m w w′ S d n at h nest a b = rw (S (d - 1) n (at + 3) (h .body) a) (bind-cong _ _ _ (λ g eg. ap (_>>= (λ r. got (group g r))) (S _ _ _ (h .rest) b)))
+step-same ln m w w′ S d n at h nest a b =
+    ap (_>>= (λ g. w d (n - leaves g) (at + 3 + length (h .body)) (h .rest) >>= λ r. got (group g r))) (S (d - 1) n (at + 3) (h .body) a)
+    ∙ bind-cong _ _ _ (λ g eg. ap (_>>= (λ r. got (group g r))) (S _ _ _ (h .rest) b))
 
 walk-same : (ln f g m : ℕ) → m ≤ f → m ≤ g → Same m (walk ln f) (walk ln g)
 unfolding walk

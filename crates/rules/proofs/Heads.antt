@@ -4,7 +4,7 @@ use mathlib.Core.Bool.{Bool, true}
 use mathlib.Core.List.{List, [], _∷_, _++_}
 use Prim.Native.Nat.{ℕ, _+_, _≤_, _<_}
 use native.Mathlib.Omega.{arith}
-use lib.ListN.{length, take, drop, length-append, length-take, length-drop, take-append-drop}
+use lib.ListN.{length, take, drop, getD, length-append, length-take, length-drop, take-append-drop}
 use lib.Seq.{length-take-le, take-append-seam, drop-append-seam}
 use lib.Dec.{leb, eqb}
 use borrow.Author.Tests.{leb-true, eqb-true, le-leb, eq-eqb}
@@ -52,6 +52,18 @@ module _ (ln at : ℕ) where
   unfolding header block
   header-got t body rest l =
       rw (num-digits 2 (length body) l, take-append-seam body rest, drop-append-seam body rest) (test-got _ _ _ _ (le-leb (length body) (length (body ++ rest)) (rw length-append (omega arith))))
+
+  -- The tag is the first byte.
+  pub header-tag : (s : List ℕ) (h : Head) → header ln at s ≡ got h → getD s 0 0 ≡ h .tag
+  unfolding header
+  header-tag [] h e = refused-got e
+  header-tag (t ∷ []) h e = refused-got e
+  header-tag (t ∷ a ∷ []) h e = refused-got e
+  header-tag (t ∷ a ∷ b ∷ s) h e =
+      let n : ℕ = num (a ∷ b ∷ []) in
+      let i = test-inv (leb n (length s)) 2 ln at _ e in
+      let q : _≡_ {A = Head} (record { tag = t; body = take n s; rest = drop n s }) h = cc in
+      ap (λ x. x .tag) q
 
   -- What a block holds, and what is left after it, is shorter by three.
   pub header-less : (s : List ℕ) (h : Head) → header ln at s ≡ got h → (length (h .body) + 3 ≤ length s) × (length (h .rest) + 3 ≤ length s)

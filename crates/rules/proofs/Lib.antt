@@ -25,6 +25,13 @@ pub mod Roll
 pub mod Divisions
 pub mod Ranges
 pub mod Drawing
+pub mod Light
+pub mod Alike
+pub mod EntryFault
+pub mod FrameFault
+pub mod FirstFault
+pub mod BadLine
+pub mod Reading
 pub mod Fair
 pub mod Levers
 pub mod Areas

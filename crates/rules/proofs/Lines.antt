@@ -1,5 +1,6 @@
 -- Characters and lines: the lines of a text are read exactly where the text spells them.
 use mathlib.Core.Path.{_≡_, refl, ap, ap₂, sym, _∙_}
+use mathlib.Core.Logic.{_≢_}
 use mathlib.Core.Bool.{Bool, true, false, cond, _&&_}
 use mathlib.Core.List.{List, [], _∷_, _++_}
 use Prim.Native.Nat.{ℕ, _+_, _-_, _*_, _/_, _%_, _<_}
@@ -10,6 +11,7 @@ use Rattle.rules.specs.Numbers.{Bytes}
 use Rattle.rules.specs.Text.{LF, digit, hex, text, Lines}
 use Rattle.rules.specs.Answers.{refused, got}
 use Rattle.rules.specs.Walk.{nibble, unhex, Pieces, put, split, decode, linesFrom}
+use Rattle.rules.specs.Met.{NoLF}
 use Rattle.rules.proofs.Answers.{refused-got, bind-inv, test-inv, bind-got, test-got}
 use Rattle.rules.proofs.Fields.{both-true}
 
@@ -39,7 +41,7 @@ nibble-got ln x h = go (ltb x 10) refl
     go false p = rw (le-leb 48 (55 + x) (omega arith), lt-leb (55 + x) 57 (omega (arith, ltb-false)), le-leb 65 (55 + x) (omega (arith, ltb-false)), le-leb (55 + x) 70 (omega arith)) (ap got (omega arith))
 
 -- ---- the bytes of a line
-unhex-sound : (ln : ℕ) (s b : List ℕ) → unhex ln s ≡ got b → (hex b ≡ s) × Bytes b
+pub unhex-sound : (ln : ℕ) (s b : List ℕ) → unhex ln s ≡ got b → (hex b ≡ s) × Bytes b
 unfolding unhex hex Bytes
 unhex-sound ln [] b e = let q : [] ≡ b = cc in rw (← q) (refl, tt)
 unhex-sound ln (c ∷ []) b e = refused-got e
@@ -55,7 +57,7 @@ unhex-sound ln (c ∷ d ∷ s) b e =
     let v : (16 * i .0 + j .0) % 16 ≡ j .0 = omega (arith, x .0, y .0) in
     rw (← q) (rw (u, v, x .1, y .1, r .0) refl, (omega (arith, x .0, y .0), r .1))
 
-unhex-got : (ln : ℕ) (b : List ℕ) → Bytes b → unhex ln (hex b) ≡ got b
+pub unhex-got : (ln : ℕ) (b : List ℕ) → Bytes b → unhex ln (hex b) ≡ got b
 unfolding unhex hex Bytes
 unhex-got ln [] B = refl
 unhex-got ln (b ∷ s) B =
@@ -94,23 +96,29 @@ decode-sound (q ∷ ps) ln p ls e =
     let z : i .0 ∷ k .0 ≡ ls = cc in
     rw (← z) (rw (b .0, r .0) refl, (j .0, b .1, r .1))
 
-digit-no-lf : (n : ℕ) → eqb (digit n) LF ≡ false
+digit-no-lf : (n : ℕ) → digit n ≢ LF
 unfolding digit
 digit-no-lf n = go (ltb n 10)
   where
-    go : (a : Bool) → eqb (cond a (48 + n) (55 + n)) LF ≡ false
-    go true = ne-eqb (48 + n) LF (λ e. omega arith)
-    go false = ne-eqb (55 + n) LF (λ e. omega arith)
+    go : (a : Bool) → cond a (48 + n) (55 + n) ≢ LF
+    go true = λ e. omega arith
+    go false = λ e. omega arith
 
-split-hex : (b t : List ℕ) → split (hex b ++ (LF ∷ t)) ≡ (hex b, split t .0 ∷ split t .1)
-unfolding split put hex
-split-hex [] t = refl
-split-hex (b ∷ s) t = rw (digit-no-lf (b / 16), digit-no-lf (b % 16), split-hex s t)
+pub hex-no-lf : (b : List ℕ) → NoLF (hex b)
+unfolding hex NoLF
+hex-no-lf [] = tt
+hex-no-lf (b ∷ s) = (digit-no-lf (b / 16), (digit-no-lf (b % 16), hex-no-lf s))
+
+-- A text is cut at its first LF.
+pub split-piece : (p t : List ℕ) → NoLF p → split (p ++ (LF ∷ t)) ≡ (p, split t .0 ∷ split t .1)
+unfolding split put NoLF
+split-piece [] t h = refl
+split-piece (c ∷ p) t h = rw (ne-eqb c LF (h .0), split-piece p t (h .1))
 
 decode-got : (ls : List (List ℕ)) (ln : ℕ) → Lines ls → decode ln (split (text ls) .0) (split (text ls) .1) ≡ got ls
 unfolding decode text Lines split
 decode-got [] ln h = refl
-decode-got (l ∷ ls) ln h = rw (split-hex l (text ls)) (bind-got _ (unhex-got ln l (h .1)) ∙ test-got _ _ _ _ (h .0) ∙ bind-got _ (decode-got ls (ln + 1) (h .2)))
+decode-got (l ∷ ls) ln h = rw (split-piece (hex l) (text ls) (hex-no-lf l)) (bind-got _ (unhex-got ln l (h .1)) ∙ test-got _ _ _ _ (h .0) ∙ bind-got _ (decode-got ls (ln + 1) (h .2)))
 
 -- Where lines are read, the text spells them.
 pub lines-sound : (ln : ℕ) (t : List ℕ) (ls : List (List ℕ)) → linesFrom ln t ≡ got ls → (text ls ≡ t) × Lines ls

@@ -5,7 +5,6 @@ use mathlib.Core.List.{List, [], _∷_, _++_, append-assoc, append-nil}
 use Prim.Native.Nat.{ℕ, _+_, _-_, _≤_, _<_}
 use native.Mathlib.Omega.{arith}
 use lib.ListN.{length, length-append}
-use borrow.Author.Tests.{le-leb}
 use Rattle.rules.specs.Text.{text, Lines}
 use Rattle.rules.specs.Blocks.{block, spellValues, ok, spellBlock, Ship, Row, conditionTag, Weather, weather, entry, groupTag}
 use Rattle.rules.specs.Layout.{Entries, end, leaf, group, spell, spellCondition, leaves, depth, Good, Rising, fewestRows, mostRows, mostDepth, mostEntries, mostBytes, mostCharacters}
@@ -19,8 +18,7 @@ use Rattle.rules.proofs.Fuel.{entries-block}
 use Rattle.rules.proofs.Walked.{length-leaf, length-group, full-spell, entry-passes, group-passes, entries-got}
 use Rattle.rules.proofs.Conditions.{inside-got}
 use Rattle.rules.proofs.Frames.{ship-got, tail-row, condition-frame}
-use Rattle.rules.proofs.Lines.{lines-got}
-use Rattle.rules.proofs.Whole.{read-steps}
+use Rattle.rules.proofs.Whole.{read-lines}
 use Rattle.rules.proofs.Parts.{full-some, header-overrun}
 use Rattle.rules.proofs.Ways.{entries-short}
 use Rattle.rules.proofs.FrameWays.{inside-short, ship-short, frame-short}
@@ -111,4 +109,4 @@ frames-overrun (entryBlock s vs w b later L f h l m) v =
 
 -- ---- a whole text
 pub overrun : (ls : List (List ℕ)) {ln o : ℕ} {left : List ℕ} → Lines ls → length (text ls) ≤ mostCharacters → Met ls ln o left → Overruns left → read (text ls) ≡ refused 2 ln o
-overrun ls B l m v = read-steps (text ls) ∙ test-got _ _ _ _ (le-leb _ _ l) ∙ bind-got _ (lines-got ls 1 B) ∙ frames-overrun m v
+overrun ls B l m v = read-lines ls B l ∙ frames-overrun m v

@@ -44,6 +44,10 @@ pub full-none : (s : List ℕ) → length s ≡ 0 → full s ≡ false
 full-none [] h = refl
 full-none (x ∷ s) h = absurd (omega arith)
 
+pub full-length : (s : List ℕ) → full s ≡ true → 0 < length s
+full-length [] e = absurd (let z : _≡_ {A = ℕ} 0 1 = cc in omega arith)
+full-length (x ∷ s) e = omega arith
+
 pub part-end : (s : List ℕ) (a : ℕ) → part a (length s) s ≡ drop a s
 part-end s a = take-all (length s - a) (drop a s) (rw (length-drop a s) (omega arith))
 

@@ -1,6 +1,6 @@
 -- Every refusal by the walk has a number from 1 to 6, and the line and an offset of what is being read; and so a text is refused exactly when it is not allowed.
 use mathlib.Core.Path.{_≡_, refl, sym, _∙_}
-use mathlib.Core.Logic.{_↔_}
+use mathlib.Core.Logic.{_↔_, _≢_}
 use mathlib.Core.Bool.{Bool, true, false, cond, _&&_}
 use mathlib.Core.List.{List, [], _∷_}
 use Prim.Native.Nat.{ℕ, zero, suc, _+_, _-_, _≤_, _<_}
@@ -13,7 +13,7 @@ use Rattle.rules.specs.Answers.{Ans, refused, got, test, _>>=_, _>>_}
 use Rattle.rules.specs.Walk.{nibble, unhex, split, decode, linesFrom, Head, header, fixed, Tag, load, nested, tagOf, Block, one, nest, begun, blockAt, Walk, step, walk, entries, weatherAt, loadAt, inside, conditionIn, fixedIn, shipFrame, rowIn, Frame, aRow, aCondition, frameOf, Found, tableRow, theCondition, found, frameAt, closed, after, tail, readFrames, read}
 use Rattle.rules.proofs.Answers.{refused-got}
 use Rattle.rules.proofs.Heads.{header-less}
-use Rattle.rules.proofs.Whole.{read-steps, read-iff-allowed}
+use Rattle.rules.proofs.Whole.{read-steps, read-allowed}
 
 -- What holds of the refusal, where an answer is one.
 pub record Refusal {A : Type 0} (P : ℕ → ℕ → ℕ → Type 0) (m : Ans A) : Type 0 where
@@ -53,17 +53,21 @@ abbrev pub NotBefore : ℕ → ℕ → ℕ → ℕ → Type 0
 NotBefore ln n l o = Numbered n l o × (ln ≤ l)
 
 -- ---- lines
+-- This line is none.
+abbrev pub NoLineAt : ℕ → ℕ → ℕ → ℕ → Type 0
+NoLineAt ln n l o = (n ≡ 1) × (l ≡ ln) × (o ≡ 0)
+
 module _ (ln : ℕ) where
-  nibble-refusal : (c : ℕ) → Refusal (At ln 0) (nibble ln c)
+  nibble-refusal : (c : ℕ) → Refusal (NoLineAt ln) (nibble ln c)
   unfolding nibble
   nibble-refusal c = go (leb 48 c && leb c 57) (leb 65 c && leb c 70)
     where
-      go : (a b : Bool) → Refusal (At ln 0) (cond a (got (c - 48)) (cond b (got (c - 55)) (refused 1 ln 0)))
+      go : (a b : Bool) → Refusal (NoLineAt ln) (cond a (got (c - 48)) (cond b (got (c - 55)) (refused 1 ln 0)))
       go true b = given
       go false true = given
       go false false = plain 1 ln 0 (omega arith)
 
-  pub unhex-refusal : (s : List ℕ) → Refusal (At ln 0) (unhex ln s)
+  pub unhex-refusal : (s : List ℕ) → Refusal (NoLineAt ln) (unhex ln s)
   unfolding unhex
   unhex-refusal [] = given
   unhex-refusal (c ∷ []) = plain 1 ln 0 (omega arith)
@@ -145,7 +149,11 @@ module _ (ln : ℕ) where
   unfolding weatherAt
   weather-refusal t body = test-refusal _ _ _ _ _ (omega arith) (fixed-refusal weather true 3 body)
 
-  inside-refusal : (body : List ℕ) → Refusal (From ln 0) (inside ln body)
+  -- Inside the condition: 5 at its own offset, or behind its head.
+  abbrev Inner : ℕ → ℕ → ℕ → Type 0
+  Inner n l o = Numbered n l o × (l ≡ ln) × (0 < o → 3 ≤ o) × (n ≤ 4 → 3 ≤ o)
+
+  pub inside-refusal : (body : List ℕ) → Refusal Inner (inside ln body)
   unfolding inside loadAt
   inside-refusal body =
       test-refusal _ _ _ _ _ (omega arith) (bind-refusal _ _ (weaker (λ n l o x. omega arith) (header-refusal 3 body)) (λ h eh.
@@ -169,13 +177,17 @@ module _ (ln : ℕ) where
   unfolding rowIn
   row-refusal p h = bind-refusal _ _ (fixedIn-refusal row h) (λ v ev. test-refusal _ _ _ _ _ (omega arith) given)
 
+  pub found-row-refusal : (k p : ℕ) (h : Head) → Refusal (At ln 0) (found ln k p h aRow)
+  unfolding found
+  found-row-refusal k p h = test-refusal _ _ _ _ _ (omega arith) (bind-refusal _ _ (row-refusal p h) (λ v ev. given))
+
   condition-refusal : (h : Head) → Refusal (From ln 0) (conditionIn ln h)
   unfolding conditionIn
-  condition-refusal h = test-refusal _ _ _ _ _ (omega arith) (test-refusal _ _ _ _ _ (omega arith) (inside-refusal (h .body)))
+  condition-refusal h = test-refusal _ _ _ _ _ (omega arith) (test-refusal _ _ _ _ _ (omega arith) (weaker (λ n l o x. (x .0, x .1, omega arith)) (inside-refusal (h .body))))
 
   found-refusal : (k p : ℕ) (h : Head) (t : Frame) → Refusal (From ln 0) (found ln k p h t)
   unfolding found
-  found-refusal k p h aRow = test-refusal _ _ _ _ _ (omega arith) (bind-refusal _ _ (weaker (λ n l o x. omega arith) (row-refusal p h)) (λ v ev. given))
+  found-refusal k p h aRow = weaker (λ n l o x. omega arith) (found-row-refusal k p h)
   found-refusal k p h aCondition = test-refusal _ _ _ _ _ (omega arith) (bind-refusal _ _ (condition-refusal h) (λ c ec. given))
 
   pub frameAt-refusal : (k p : ℕ) (l : List ℕ) → Refusal (From ln 0) (frameAt ln k p l)
@@ -225,9 +237,19 @@ number-of-refusal t e = read-refusal t .holds _ _ _ e
 abbrev pub Refused : List ℕ → Type 0
 Refused t = (n : ℕ) × (l : ℕ) × (o : ℕ) × (read t ≡ refused n l o) × (1 ≤ n) × (n ≤ 6)
 
-pub refused-iff-not-allowed : (t : List ℕ) → Refused t ↔ (¬ Allowed t)
-refused-iff-not-allowed t = (λ x a. let g = read-iff-allowed t .1 a in refused-got (sym (x .3) ∙ g .1), λ h. go h (read t) refl)
+-- A text is refused or allowed, and not both.
+refused-or-allowed : {X : Type 0} (t : List ℕ) → (Refused t → X) → (Allowed t → X) → X
+refused-or-allowed {X} t f g = go (read t) refl
   where
-    go : (¬ Allowed t) → (a : Ans Reading) → read t ≡ a → Refused t
-    go h (refused n l o) e = let f = number-of-refusal t e in (n, l, o, e, f .0, f .1)
-    go h (got r) e = absurd (h (read-iff-allowed t .0 (r, e)))
+    go : (a : Ans Reading) → read t ≡ a → X
+    go (refused n l o) e = let h = number-of-refusal t e in f (n, l, o, e, h .0, h .1)
+    go (got r) e = g (read-allowed t .0 (r, e))
+
+pub not-both : (t : List ℕ) (n l o : ℕ) → read t ≡ refused n l o → ¬ Allowed t
+not-both t n l o e a = refused-got (sym e ∙ read-allowed t .1 a .1)
+
+pub refused-iff-not-allowed : (t : List ℕ) → Refused t ↔ (¬ Allowed t)
+refused-iff-not-allowed t = (λ x. not-both t (x .0) (x .1) (x .2) (x .3), λ h. refused-or-allowed t (λ x. x) (λ a. absurd (h a)))
+
+pub unrefused-iff-allowed : (t : List ℕ) → ((n l o : ℕ) → (1 ≤ n) × (n ≤ 6) → read t ≢ refused n l o) ↔ Allowed t
+unrefused-iff-allowed t = (λ h. refused-or-allowed t (λ x. absurd (h (x .0) (x .1) (x .2) (x .4, x .5) (x .3))) (λ a. a), λ a n l o h e. not-both t n l o e a)

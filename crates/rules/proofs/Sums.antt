@@ -4,8 +4,9 @@ use mathlib.Core.List.{List, [], _∷_, _++_, append-assoc}
 use Prim.Native.Nat.{ℕ, suc, _+_}
 use native.Mathlib.Omega.{arith}
 use lib.ListN.{length, length-append}
+use Rattle.rules.specs.Rounding.{ceil}
 use Rattle.rules.specs.Layout.{Entries, end, leaf, group, Reading, leaves}
-use Rattle.rules.specs.Loading.{Entry, flat, total, weighed}
+use Rattle.rules.specs.Loading.{Entry, flat, total, mass, moment, freeSurface, displacement, correctedKG, weighed}
 use Rattle.rules.specs.Leaves.{sumLeaves, followed, ungrouped, loadedWith}
 use Rattle.rules.specs.Answers.{got, _>>_}
 use Rattle.rules.specs.Curve.{loaded}
@@ -30,6 +31,15 @@ unfolding total flat sumLeaves
 total-leaves f end = refl
 total-leaves f (leaf k v r) = ap (f (record { kind = k; values = v }) +_) (total-leaves f r)
 total-leaves f (group g r) = total-append f (flat g) (flat r) ∙ ap₂ _+_ (total-leaves f g) (total-leaves f r)
+
+-- So are W and the corrected KG.
+pub displacement-leaves : (F : Entries) → displacement (flat F) ≡ sumLeaves mass F
+unfolding displacement
+displacement-leaves F = total-leaves mass F
+
+pub correctedKG-leaves : (F : Entries) → correctedKG (flat F) ≡ ceil (sumLeaves moment F + sumLeaves freeSurface F) (sumLeaves mass F)
+unfolding correctedKG
+correctedKG-leaves F = ap₂ ceil (ap₂ _+_ (total-leaves moment F) (total-leaves freeSurface F)) (displacement-leaves F)
 
 -- ---- without groups
 flat-followed : (a b : Entries) → flat (followed a b) ≡ flat a ++ flat b

@@ -74,6 +74,14 @@ module _ (ln : ℕ) where
       go false false true p q r e = let z : nested ≡ x = cc in rw (← z) (sym (eqb-true _ _ r))
       go false false false p q r e = refused-got e
 
+  begun-nested : (d n at : ℕ) (body : List ℕ) (b : Block) → begun ln d n at body nested ≡ got b → (nest ≡ b) × (0 < d) × (full body ≡ true)
+  unfolding begun
+  begun-nested d n at body b e =
+      let a = test-inv _ _ _ _ _ e in
+      let f = test-inv _ _ _ _ _ (a .1) in
+      let q : nest ≡ b = cc in
+      (q, ltb-true 0 d (a .0), f .0)
+
   block-sound : (d n at : ℕ) (h : Head) (b : Block) → Bytes (h .body) → blockAt ln d n at (h .tag) (h .body) ≡ got b → Told d n h b
   unfolding blockAt begun spellBlock
   block-sound d n at h b B e = let a = bind-inv _ _ e in go (a .0) (tagOf-sound at (h .tag) (a .0) (a .1)) (a .2)
@@ -84,11 +92,16 @@ module _ (ln : ℕ) where
           let v = fixed-sound ln at (entry k) (entry-lawful k) (ltb 0 n) (h .body) (a .0) B (a .1) in
           let q : one k (a .0) ≡ b = cc in
           rw (← q) (ap₂ block c (v .0), ltb-true 0 n (v .1), v .2)
-      go nested c e =
-          let a = test-inv _ _ _ _ _ e in
-          let f = test-inv _ _ _ _ _ (a .1) in
-          let q : nest ≡ b = cc in
-          rw (← q) (c, ltb-true 0 d (a .0), f .0)
+      go nested c e = let g = begun-nested d n at (h .body) b e in rw (← (g .0)) (c, g .1, g .2)
+
+  -- A block that passes as a group is one, and whatever else it held it would pass.
+  pub nest-inv : (d n at t : ℕ) (body : List ℕ) → blockAt ln d n at t body ≡ got nest → (groupTag ≡ t) × (0 < d) × (full body ≡ true)
+  unfolding blockAt begun
+  nest-inv d n at t body e = let a = bind-inv _ _ e in go (a .0) (tagOf-sound at t (a .0) (a .1)) (a .2)
+    where
+      go : (x : Tag) → code x ≡ t → begun ln d n at body x ≡ got nest → (groupTag ≡ t) × (0 < d) × (full body ≡ true)
+      go (load k) c e = absurd (let v = bind-inv _ _ e in let z : _≡_ {A = ℕ} 0 1 = cc in omega arith)
+      go nested c e = let g = begun-nested d n at body nest e in (c, g .1, g .2)
 
   step-sound : (w : Walk) → Sound w → (d n at : ℕ) (h : Head) (b : Block) (F : Entries) → Bytes (h .body) → Bytes (h .rest) → Told d n h b → step ln w d n at h b ≡ got F
       → Stands d n (block (h .tag) (h .body) ++ h .rest) F

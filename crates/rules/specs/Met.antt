@@ -1,10 +1,13 @@
 -- 'Blocks as they begin, first byte to last': which blocks the reading of a text comes to, said with no reader.
 -- A block is met where all that stands before it keeps the layout and the limits. What stands behind it may be anything.
 use mathlib.Core.Path.{_≡_}
+use mathlib.Core.Logic.{_≢_}
 use mathlib.Core.Bool.{true}
 use mathlib.Core.List.{List, [], _∷_, _++_}
 use Prim.Native.Nat.{ℕ, _+_, _-_, _≤_, _<_}
 use lib.ListN.{length}
+use Rattle.rules.specs.Numbers.{Bytes, full}
+use Rattle.rules.specs.Text.{LF, hex}
 use Rattle.rules.specs.Blocks.{block, ok, spellBlock, Ship, ship, Row, row, conditionTag, Weather, weather, groupTag}
 use Rattle.rules.specs.Layout.{Entries, Condition, spell, spellCondition, leaves, depth, Good, Rising, fewestRows, mostRows, mostDepth, mostEntries, mostBytes, ConditionLimits}
 use Rattle.rules.specs.Parts.{be2}
@@ -58,3 +61,12 @@ pub data Met : List (List ℕ) → ℕ → ℕ → List ℕ → Type 0 where
 -- 'One or two bytes left where a block would begin, or a block's length runs past its parent': there are fewer than a head and the length ask for. (A byte that is not there counts 0.)
 abbrev pub Overruns : List ℕ → Type 0
 Overruns left = (0 < length left) × (length left < 3 + be2 left 1)
+
+-- ---- among characters
+-- Characters of which none is an LF, and which are no line: no bytes, at least one, are so written.
+unfoldable pub NoLF : List ℕ → Type 0
+NoLF [] = Unit {0}
+NoLF (c ∷ p) = (c ≢ LF) × NoLF p
+
+abbrev pub NoLine : List ℕ → Type 0
+NoLine p = NoLF p × ((b : List ℕ) → full b ≡ true → Bytes b → hex b ≢ p)

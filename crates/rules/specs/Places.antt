@@ -1,8 +1,10 @@
 -- Where blocks stand: by the tags and the lengths that the bytes of a line say themselves.
 use mathlib.Core.Path.{_≡_}
+use mathlib.Core.Bool.{cond}
 use mathlib.Core.List.{List, [], _∷_, _++_}
-use Prim.Native.Nat.{ℕ, _+_, _≤_}
+use Prim.Native.Nat.{ℕ, _+_, _≤_, _<_}
 use lib.ListN.{length, getD}
+use lib.Dec.{leb}
 use Rattle.rules.specs.Blocks.{conditionTag, weather, entry, groupTag}
 use Rattle.rules.specs.Layout.{Entries, end, leaf, group, Condition}
 use Rattle.rules.specs.Parts.{be2}
@@ -41,3 +43,12 @@ pub record LinesFill (ls : List (List ℕ)) (c : Condition) : Type 0 where
   pub lines : front ++ (last ∷ []) ≡ ls
   pub frames : FramesFill front
   pub condition : ConditionFills last c
+
+-- Two lines of one length, with the same bytes before offset e.
+pub record SameBefore (e : ℕ) (l l′ : List ℕ) : Type 0 where
+  pub long : length l ≡ length l′
+  pub bytes : (i : ℕ) → i < e → getD l i 0 ≡ getD l′ i 0
+
+-- How far a refusal looks, of the block that it names at offset o: 2, 4 and 3 at its head, 5 and 6 to its end.
+abbrev pub lookedAt : List ℕ → ℕ → ℕ → ℕ
+lookedAt line number o = cond (leb number 4) (o + 3) (endOf line o)

@@ -6,7 +6,8 @@ use lib.ListN.{length, getD, length-set}
 use borrow.Author.Needs.{needs}
 use Rattle.book.specs.Book.{rowOf}
 use Rattle.curve.specs.Interpolation.{between}
-use Rattle.curve.proofs.Interpolation.{kn-small, lies-between}
+use Rattle.curve.proofs.Interpolation.{lies-between}
+use Rattle.curve.proofs.Limits.{kn-small}
 use Rattle.curve.proofs.Filling.{Filled, filled-none, filled-more, all-stations}
 use Rattle.curve.proofs.table.kn_between.Statement.{statement}
 use Rattle.curve.proofs.table.kn_between.Tie as tie

@@ -2,7 +2,8 @@
 use Prim.Native.Nat.{_-_}
 use borrow.Author.Needs.{needs}
 use Rattle.curve.specs.Interpolation.{rowAt, Neighbours}
-use Rattle.curve.proofs.Interpolation.{draught-small, km-small, neighbours, lies-between, loaded-is}
+use Rattle.curve.proofs.Interpolation.{neighbours, lies-between, loaded-is}
+use Rattle.curve.proofs.Limits.{draught-small, km-small}
 use Rattle.curve.proofs.table.loaded.Statement.{statement}
 use Rattle.curve.proofs.table.loaded.Tie as tie
 

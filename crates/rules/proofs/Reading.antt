@@ -1,0 +1,89 @@
+-- What is promised of the reading of a text, to be read without the proofs: each promise is one theorem with a sentence above it, and its proof stands elsewhere.
+-- Its words are defined in specs/: Layout says which texts are allowed, Walk in which order they are checked, Places where blocks stand, Leaves what is summed, Met what a reading comes to.
+use mathlib.Core.Path.{_≡_, sym}
+use mathlib.Core.Logic.{_↔_, _≢_}
+use mathlib.Core.List.{List, _∷_, _++_}
+use Prim.Native.Nat.{ℕ, _+_, _≤_}
+use lib.ListN.{length, getD}
+use Rattle.rules.specs.Rounding.{ceil}
+use Rattle.rules.specs.Text.{LF, text, Lines}
+use Rattle.rules.specs.Blocks.{conditionTag}
+use Rattle.rules.specs.Layout.{Entries, Reading, frames, spellText, leaves, mostCharacters, Limits, Allowed}
+use Rattle.rules.specs.Answers.{refused, got}
+use Rattle.rules.specs.Walk.{linesFrom, read}
+use Rattle.rules.specs.Loading.{flat, mass, moment, freeSurface, displacement, correctedKG, entriesOf}
+use Rattle.rules.specs.Leaves.{sumLeaves, ungrouped, loadedWith}
+use Rattle.rules.specs.Places.{LinesFill, SameBefore, lookedAt}
+use Rattle.rules.specs.Met.{Met, Overruns, NoLine}
+use Rattle.rules.specs.Answer.{judged}
+use Rattle.rules.proofs.Whole.{sound, lines-of-reading, reading-unique}
+use Rattle.rules.proofs.Refused.{number-of-refusal, not-both, unrefused-iff-allowed}
+use Rattle.rules.proofs.Inside.{reading-fills}
+use Rattle.rules.proofs.Sums.{leaves-flat, displacement-leaves, correctedKG-leaves, flat-ungrouped, judged-same}
+use Rattle.rules.proofs.Overrun.{overrun}
+use Rattle.rules.proofs.Drawing.{drawing, drawing-refused}
+use Rattle.rules.proofs.FirstFault.{fault-stands}
+use Rattle.rules.proofs.BadLine.{bad-line}
+
+-- ---- which texts are read
+-- A text gets none of refusals 1 to 6 exactly when it is allowed.
+pub read-iff-allowed : (t : List ℕ) → ((n l o : ℕ) → (1 ≤ n) × (n ≤ 6) → read t ≢ refused n l o) ↔ Allowed t
+read-iff-allowed t = unrefused-iff-allowed t
+
+-- An allowed text has one reading only.
+pub one-reading : (t : List ℕ) (a b : Allowed t) → a .0 ≡ b .0
+one-reading t a b = reading-unique t a b
+
+-- What is read from a text spells that text, within the limits.
+pub reading-spells : (t : List ℕ) (r : Reading) → read t ≡ got r → Limits r × (spellText r ≡ t)
+reading-spells t r e = sound t r e
+
+-- The number of a refusal by the walk is one of 1 to 6.
+pub refusal-number : (t : List ℕ) (n l o : ℕ) → read t ≡ refused n l o → (1 ≤ n) × (n ≤ 6)
+refusal-number t n l o e = number-of-refusal t e
+
+-- ---- where its blocks stand
+-- In a reading every block lies wholly inside its parent's body, and the blocks of a parent stand end to end and fill it:
+-- each line is filled by its frame; in A3's line the weather stands at offset 3, behind it the entries end to end, of which the last ends with the line; and so in each group, from behind its head to its end.
+pub inside-parent : (t : List ℕ) (r : Reading) → read t ≡ got r → (linesFrom 1 t ≡ got (frames r)) × LinesFill (frames r) (r .condition)
+inside-parent t r e = (lines-of-reading t r e, reading-fills r (sound t r e .0))
+
+-- ---- what is summed
+-- The masses, moments and free surface moments that are judged are the sums over the leaves of the one tree, each once, and there are as many as leaves.
+pub counted-once : (r : Reading) → (displacement (entriesOf r) ≡ sumLeaves mass (r .condition .load))
+    × (correctedKG (entriesOf r) ≡ ceil (sumLeaves moment (r .condition .load) + sumLeaves freeSurface (r .condition .load)) (sumLeaves mass (r .condition .load)))
+    × (length (entriesOf r) ≡ leaves (r .condition .load))
+counted-once r = (displacement-leaves (r .condition .load), correctedKG-leaves (r .condition .load), sym (leaves-flat (r .condition .load)))
+
+-- Groups carry no meaning of their own: with all of them taken away, the same is judged.
+pub groups-mean-nothing : (r : Reading) → judged (loadedWith r (ungrouped (r .condition .load))) ≡ judged r
+groups-mean-nothing r = judged-same r (ungrouped (r .condition .load)) (r .condition .load) (flat-ungrouped (r .condition .load))
+
+-- Any two loads with the same entries in the same order are judged alike, however they are grouped.
+pub grouping-free : (r : Reading) (F G : Entries) → flat F ≡ flat G → judged (loadedWith r F) ≡ judged (loadedWith r G)
+grouping-free r F G e = judged-same r F G e
+
+-- ---- what is refused
+-- Whatever else a text holds: where a block is met whose length runs past its parent, or one or two bytes where a block would begin, the answer is refusal 2 at that block's line and offset.
+pub overrun-refused : (ls : List (List ℕ)) (ln o : ℕ) (left : List ℕ) → Lines ls → length (text ls) ≤ mostCharacters → Met ls ln o left → Overruns left → read (text ls) ≡ refused 2 ln o
+overrun-refused ls ln o left B l m v = overrun ls B l m v
+
+-- So no such text is ever read.
+pub overrun-never-read : (ls : List (List ℕ)) (ln o : ℕ) (left : List ℕ) → Lines ls → length (text ls) ≤ mostCharacters → Met ls ln o left → Overruns left → ¬ Allowed (text ls)
+overrun-never-read ls ln o left B l m v = not-both (text ls) 2 ln o (overrun ls B l m v)
+
+-- The surveyor's drawing, a group of tanks whose length runs past its parent but not past the line, is refused so.
+pub drawing-is-refused : read drawing ≡ refused 2 4 21
+drawing-is-refused = drawing-refused
+
+-- A refusal depends on nothing behind the block that it names. Two texts of lines within 12,000 characters have the same lines before the one that is named; that line has one length in both (it is its frame's parent)
+-- and the same bytes up to the end of the named block (for 2, 4 and 3: of its head); all that stands behind, in the line and in further lines, may differ: the refusal is the same.
+-- Left out is 5 with no A3: it names no block but the text's end, and a further line would change it. Every other 5 stands in the line of an A3. Of 1 the next promise speaks.
+pub first-fault : (front later later′ : List (List ℕ)) (l l′ : List ℕ) (n o : ℕ) → Lines (front ++ (l ∷ later)) → length (text (front ++ (l ∷ later))) ≤ mostCharacters
+    → Lines (front ++ (l′ ∷ later′)) → length (text (front ++ (l′ ∷ later′))) ≤ mostCharacters → SameBefore (lookedAt l n o) l l′ → (n ≡ 5 → getD l 0 0 ≡ conditionTag)
+    → read (text (front ++ (l ∷ later))) ≡ refused n (1 + length front) o → read (text (front ++ (l′ ∷ later′))) ≡ refused n (1 + length front) o
+first-fault front later later′ l l′ n o B c B′ c′ A five e = fault-stands front later later′ l l′ n o B c B′ c′ A five e
+
+-- Nor does 1 depend on what stands behind the line that it names, within 12,000 characters: behind lines, characters that are no line, an LF and anything are refused with 1 there.
+pub first-bad-line : (front : List (List ℕ)) (p rest : List ℕ) → Lines front → NoLine p → length (text front ++ (p ++ (LF ∷ rest))) ≤ mostCharacters → read (text front ++ (p ++ (LF ∷ rest))) ≡ refused 1 (1 + length front) 0
+first-bad-line front p rest B N l = bad-line front p rest B N l
