@@ -13,10 +13,8 @@ use Rattle.rules.specs.Roll.{phi1, net, notJudged, noGust, passes8}
 use Rattle.rules.specs.Report.{fail, unjudged, verdict, verdictNumber, verdict8, where8, judgement}
 use Rattle.rules.proofs.Angles.{greatest-none}
 use Rattle.rules.proofs.Verdicts.{criterion4, criterion4-short}
-use Rattle.gust.specs.declared.Gust.{Gust}
 use Rattle.gust.specs.declared.Gust.the-variants.{NotJudged, Failed, Net}
 use Rattle.gust.specs.Gusts.{gustOf}
-use Rattle.criteria.specs.declared.verdicts.Eighth.{Eighth}
 use Rattle.criteria.specs.Figures.{eighthOf}
 
 -- Two lists that are the same entry by entry.

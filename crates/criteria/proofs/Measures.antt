@@ -1,7 +1,7 @@
 -- The figures of criteria 1 to 4 as code takes them: two areas from 0, of which what lies from 30° on is the difference, and the lever at the peak.
 use mathlib.Core.Path.{_≡_, refl, ap, sym, _∙_}
 use mathlib.Core.Bool.{Bool, true, false}
-use Prim.Native.Nat.{ℕ, _-_, _*_, _^_, _≤_, min}
+use Prim.Native.Nat.{_-_, _*_, _^_, _≤_, min}
 use native.Mathlib.Omega.{arith}
 use native.Mathlib.Decide.{decLe}
 use borrow.Author.Tests.{le-ltb}

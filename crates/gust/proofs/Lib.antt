@@ -1,3 +1,4 @@
 pub mod Machine
 pub mod Limits
-pub mod Gusts
+pub mod Ways
+pub mod Angles

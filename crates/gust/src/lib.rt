@@ -35,6 +35,7 @@ fn units(l: u64) -> i64
     (5_000_000 * l) as i64
 }
 
+// Steady wind: phi0 is the first tenth at which the curve reaches lw1.
 pub fn steady(c: Loaded, y: &[i64; 601]) -> Wind
     requires { ⌜ Fair (loadedOf c) × Curve (loadedOf c) (now y) ⌝ }
     ensures { λ r. ⌜ r ≡ windOf (loadedOf c) ⌝ }
@@ -122,6 +123,7 @@ fn withstood(c: Loaded, y: &[i64; 601], area: &[i64; 601], wind: Wind, roll: i64
     Gust::Net { roll, net }
 }
 
+// Criterion 8: the roll says whether it is judged.
 pub fn weathered(c: Loaded, y: &[i64; 601], area: &[i64; 601], wind: Wind) -> Gust
     requires { ⌜ Fair (loadedOf c) × Curve (loadedOf c) (now y) × Areas (loadedOf c) (now area) × (wind ≡ windOf (loadedOf c)) ⌝ }
     ensures { λ r. ⌜ r ≡ gustOf (loadedOf c) ⌝ }

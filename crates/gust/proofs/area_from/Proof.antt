@@ -1,8 +1,8 @@
 -- `gust::area_from` meets its contract: an area from either side takes away the area up to the start's distance from upright. Assumes nothing.
 use mathlib.Core.Path.{_≡_, ap, sym, _∙_}
-use Prim.Native.Nat.{ℕ, _<_}
+use Prim.Native.Nat.{_<_}
 use native.Mathlib.Omega.{arith}
-use lib.IntN.{ℤ, pos, natAbs, _-ℤ_}
+use lib.IntN.{pos, natAbs, _-ℤ_}
 use lib.ListN.{getD}
 use mir.Syntax.{w64}
 use mir.Val.{SFits, toZ, ofZ}
@@ -12,7 +12,7 @@ use Rattle.rules.specs.Roll.{start, e}
 use Rattle.book.specs.Book.{loadedOf}
 use Rattle.curve.specs.Levers.{upTo}
 use Rattle.gust.proofs.Machine.{fits}
-use Rattle.gust.proofs.Gusts.{end-range, start-tilt, area-from, area-within}
+use Rattle.gust.proofs.Angles.{end-range, start-tilt, area-from, area-within}
 use Rattle.gust.proofs.area_from.Statement.{statement}
 use Rattle.gust.proofs.area_from.Tie as tie
 

@@ -1,6 +1,5 @@
 -- `gust::net` meets its contract: the area and what is taken from it are the rules', and far below 2^63. Assumes nothing.
-use mathlib.Core.Path.{_≡_, ap, sym, _∙_}
-use Prim.Native.Nat.{_*_}
+use mathlib.Core.Path.{_≡_, ap, ap₂, _∙_}
 use native.Mathlib.Omega.{arith}
 use borrow.Author.Needs.{needs}
 use lib.IntN.{ℤ, pos, _-ℤ_, _*ℤ_}
@@ -13,7 +12,7 @@ use Rattle.rules.specs.Roll.{start, e, net}
 use Rattle.book.specs.Book.{loadedOf}
 use Rattle.roll.proofs.Limits.{lw2-to}
 use Rattle.gust.proofs.Machine.{fits, abs-minus}
-use Rattle.gust.proofs.Gusts.{end-range, area-within, width-within, gust-within}
+use Rattle.gust.proofs.Angles.{end-range, area-within, width-within, gust-within}
 use Rattle.gust.proofs.net.Statement.{statement}
 use Rattle.gust.proofs.net.Tie as tie
 
@@ -58,6 +57,10 @@ unfolding net
 net-fits s =
     fits _ (omega (arith, abs-minus (area (y (ship s)) (start (ship s)) (pos (e (ship s)))) (pos 2 *ℤ units (lw2 (ship s)) *ℤ (pos (e (ship s)) -ℤ start (ship s))), area-within _ (s .pre .0), gust-within _ (s .pre .0)))
 
+returns : tie.Need-returns
+unfolding net
+returns c = ap (λ (z : ℤ). toZ w64 (ofZ w64 z)) (ap₂ _-ℤ_ (area-is c) (gust-is (c .before))) ∙ toZ-ofZ (net-fits (c .before))
+
 area-from-requires : tie.Need-area-from-requires
 area-from-requires c κs = search needs
 
@@ -76,10 +79,6 @@ mul-result-2 c = rw (twice-is (c .before), width-is (c .before)) (gust-fits (c .
 sub-result : tie.Need-sub-result
 unfolding net
 sub-result c = rw (area-is c, gust-is (c .before)) (net-fits (c .before))
-
-returns : tie.Need-returns
-unfolding net
-returns c = rw (area-is c, gust-is (c .before)) (toZ-ofZ (net-fits (c .before)))
 
 pub net-spec : {M : Type 1} → statement M
 net-spec =

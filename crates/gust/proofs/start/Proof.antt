@@ -1,11 +1,9 @@
 -- `gust::start` meets its contract: whether y has passed lw1 at phi0 is the rules' test, and each difference is the rules'. Assumes nothing.
-use mathlib.Core.Path.{_≡_, ap, sym, _∙_}
-use mathlib.Core.Bool.{Bool}
-use Prim.Native.Nat.{ℕ, _*_, _≤_}
+use mathlib.Core.Path.{_≡_, ap, ap₂, _∙_}
+use Prim.Native.Nat.{ℕ, _≤_}
 use native.Mathlib.Omega.{arith}
 use lib.IntN.{ℤ, pos, _-ℤ_}
 use lib.ListN.{getD}
-use lib.Signed.{leZ}
 use mir.Syntax.{w64}
 use mir.Val.{SFits, toZ, ofZ}
 use mir.Facts.{toZ-ofZ, toZ-pos}
@@ -16,7 +14,7 @@ use Rattle.book.specs.Book.{loadedOf}
 use Rattle.roll.proofs.Limits.{lw1-to}
 use Rattle.gust.specs.declared.Wind.{Wind}
 use Rattle.gust.proofs.Machine.{fits, abs-minus}
-use Rattle.gust.proofs.Gusts.{heel-to, roll-to, start-there, start-before}
+use Rattle.gust.proofs.Angles.{heel-to, roll-to, start-there, start-before}
 use Rattle.gust.proofs.start.Statement.{statement}
 use Rattle.gust.proofs.start.Tie as tie
 
@@ -60,6 +58,16 @@ before-is s = rw (heel-is s) (toZ-ofZ (before s))
 far : (s : tie.Start) → SFits w64 (pos (phi0 (ship s)) -ℤ pos 1 -ℤ pos (phi1 (ship s)))
 far s = fits _ (omega (arith, abs-minus (pos (phi0 (ship s)) -ℤ pos 1) (pos (phi1 (ship s))), abs-minus (pos (phi0 (ship s))) (pos 1), heel-to _ (s .pre .0), roll-to _ (s .pre .0)))
 
+returns : tie.Need-returns
+returns c =
+    let s = c .before .before .before .before in
+    ap (λ (z : ℤ). toZ w64 (ofZ w64 z)) (ap₂ _-ℤ_ (heel-is s) (roll-is s)) ∙ toZ-ofZ (near s) ∙ start-there _ (rw (y-is (c .before .before .before), lw1-is s) at (c .if1 .taken))
+
+returns-2 : tie.Need-returns-2
+returns-2 c =
+    let s = c .before .before .before .before in
+    ap (λ (z : ℤ). toZ w64 (ofZ w64 z)) (ap₂ _-ℤ_ (before-is s) (roll-is s)) ∙ toZ-ofZ (far s) ∙ start-before _ (rw (y-is (c .before .before .before), lw1-is s) at (c .if1 .left))
+
 cast-heel : tie.Need-cast-heel
 cast-heel c = record { sfits = omega (arith, phi0-to c) }
 
@@ -77,16 +85,6 @@ sub-result-2 c = let s = c .before .before .before .before in rw (heel-is s) (be
 
 sub-result-3 : tie.Need-sub-result-3
 sub-result-3 c = let s = c .before .before .before .before in rw (before-is s, roll-is s) (far s)
-
-returns : tie.Need-returns
-returns c =
-    let s = c .before .before .before .before in
-    rw (heel-is s, roll-is s, toZ-ofZ (near s)) (start-there _ (rw (y-is (c .before .before .before), lw1-is s) at (c .if1 .taken)))
-
-returns-2 : tie.Need-returns-2
-returns-2 c =
-    let s = c .before .before .before .before in
-    rw (before-is s, roll-is s, toZ-ofZ (far s)) (start-before _ (rw (y-is (c .before .before .before), lw1-is s) at (c .if1 .left)))
 
 pub start-spec : {M : Type 1} → statement M
 start-spec =

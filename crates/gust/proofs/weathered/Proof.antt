@@ -5,13 +5,12 @@ use native.Mathlib.Omega.{arith}
 use borrow.Author.Needs.{needs}
 use lib.IntN.{pos}
 use mir.Syntax.{w64}
-use mir.Val.{toZ}
 use mir.Facts.{toZ-pos}
 use Rattle.rules.specs.Curve.{Loaded}
 use Rattle.rules.specs.Roll.{notJudged, phi1}
 use Rattle.book.specs.Book.{loadedOf}
 use Rattle.roll.proofs.Angles.{angle-range}
-use Rattle.gust.proofs.Gusts.{not-judged, no-roll, rolls}
+use Rattle.gust.proofs.Ways.{not-judged, no-roll, rolls}
 use Rattle.gust.proofs.weathered.Statement.{statement}
 use Rattle.gust.proofs.weathered.Tie as tie
 

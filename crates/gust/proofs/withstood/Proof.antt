@@ -22,7 +22,7 @@ use Rattle.gust.specs.declared.Wind.{Wind}
 use Rattle.gust.specs.declared.Gust.the-variants.{Net}
 use Rattle.gust.specs.Gusts.{Blown}
 use Rattle.gust.proofs.Machine.{fits}
-use Rattle.gust.proofs.Gusts.{no-heel, never-met, met, has-net}
+use Rattle.gust.proofs.Ways.{no-heel, never-met, met, has-net}
 use Rattle.gust.proofs.withstood.Statement.{statement}
 use Rattle.gust.proofs.withstood.Tie as tie
 

@@ -1,8 +1,6 @@
 -- `criteria::figures::heel` meets its contract: phi0, or -1 where it is past the flooding angle. Assumes nothing.
-use mathlib.Core.Path.{_≡_, ap, sym, _∙_}
 use native.Mathlib.Omega.{arith}
 use borrow.Author.Tests.{le-leb, lt-leb}
-use lib.IntN.{pos}
 use mir.Syntax.{w64}
 use mir.Facts.{toZ-pos}
 use Rattle.curve.proofs.Curves.{fair-end}

@@ -1,13 +1,13 @@
 -- `criteria::figures::list` meets its contract: each figure is the rules', and the machine holds it. Assumes nothing.
 use mathlib.Core.Path.{_≡_, refl, ap, sym, _∙_}
-use Prim.Native.Nat.{ℕ, _≤_, _<_, _^_}
+use Prim.Native.Nat.{_≤_, _<_, _^_}
 use native.Mathlib.Omega.{arith}
 use borrow.Author.Needs.{needs}
 use lib.IntN.{ℤ, pos}
 use lib.Signed.{mag}
 use mir.Syntax.{w64}
 use mir.Val.{toZ, ofZ}
-use mir.Facts.{toZ-ofZ, toZ-pos}
+use mir.Facts.{toZ-pos}
 use Rattle.rules.specs.Curve.{Loaded}
 use Rattle.rules.specs.Criteria.{angleOfGreatest}
 use Rattle.rules.proofs.Angles.{angle-is}

@@ -1,6 +1,5 @@
 -- `criteria::righting::gm` meets its contract: KM and KG are far below 2^63, and so is their difference. Assumes nothing.
 use native.Mathlib.Omega.{arith}
-use borrow.Author.Needs.{needs}
 use Rattle.roll.proofs.Limits.{sized}
 use Rattle.curve.proofs.Machine.{difference, difference-fits}
 use Rattle.criteria.proofs.righting.gm.Statement.{statement}

@@ -3,7 +3,6 @@ use mathlib.Core.Path.{_≡_, ap, sym, _∙_}
 use Prim.Native.Nat.{ℕ, _-_, _<_}
 use native.Mathlib.Omega.{arith}
 use lib.IntN.{pos}
-use lib.ListN.{getD}
 use mir.Facts.{toZ-ofZ}
 use Rattle.rules.specs.Rounding.{peak}
 use Rattle.rules.specs.Curve.{Loaded, leverZ, y, E}

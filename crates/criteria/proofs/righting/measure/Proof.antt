@@ -42,7 +42,7 @@ unfolding angleOfGreatest
 angle-is c =
     let s = c .before .before .before .before .before .before in
     let n : E (ship s) - 0 ≡ E (ship s) = omega arith in
-    c .peak .ensures ∙ rw n (peak-held (ship s .kn) (ship s .kg) (s .args .y .now) (s .pre .1) 0 (E (ship s)) (omega (arith, fair-end _ (s .pre .0))))
+    rw n at (c .peak .ensures) ∙ peak-held (ship s .kn) (ship s .kg) (s .args .y .now) (s .pre .1) 0 (E (ship s)) (omega (arith, fair-end _ (s .pre .0)))
 
 lever-is : (c : tie.After-greatest-lever) → toZ w64 (ofZ w64 (c .greatest-lever .result)) ≡ greatestLever (ship (c .before .before .before .before .before))
 lever-is c = toZ-ofZ (record { sfits = c .greatest-lever .ok }) ∙ c .greatest-lever .ensures

@@ -1,9 +1,5 @@
 -- `criteria::verdicts::of_gust` meets its contract, case by case. Assumes nothing.
-use mathlib.Core.Path.{_≡_, ap, sym, _∙_}
 use borrow.Author.Needs.{needs}
-use lib.IntN.{ℤ, pos}
-use mir.Syntax.{w64}
-use mir.Val.{toZ, ofZ}
 use Rattle.curve.proofs.Machine.{back}
 use Rattle.criteria.proofs.verdicts.of_gust.Statement.{statement}
 use Rattle.criteria.proofs.verdicts.of_gust.Tie as tie

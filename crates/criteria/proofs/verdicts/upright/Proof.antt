@@ -22,13 +22,13 @@ returns-2 : tie.Need-returns-2
 unfolding passes7
 returns-2 c =
     let s = c .before .before in
-    rw (← s .pre .1, le-leb (s .args .phi0) (s .args .c .weather .flooding) (c .before .if1 .left), le-leb (s .args .phi0) 160 (c .if2 .taken))
+    rw (← s .pre .1, le-leb (s .args .phi0) (s .args .c .weather .flooding) (c .before .if1 .left), le-leb (s .args .phi0) 160 (omega (arith, c .if2 .taken)))
 
 returns-3 : tie.Need-returns-3
 unfolding passes7
 returns-3 c =
     let s = c .before .before in
-    rw (← s .pre .1, le-leb (s .args .phi0) (s .args .c .weather .flooding) (c .before .if1 .left), lt-leb (s .args .phi0) 160 (c .if2 .left))
+    rw (← s .pre .1, le-leb (s .args .phi0) (s .args .c .weather .flooding) (c .before .if1 .left), lt-leb (s .args .phi0) 160 (omega (arith, c .if2 .left)))
 
 pub upright-spec : {M : Type 1} → statement M
 upright-spec = tie.close (tie.spec returns mul-result mul-result-2 returns-2 returns-3)

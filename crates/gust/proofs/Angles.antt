@@ -1,80 +1,27 @@
--- Criterion 8, way by way: where it is not judged, where it fails at once, and how far its angles and its areas reach where it has a net area.
-use mathlib.Core.Path.{_≡_, refl, ap, sym, _∙_}
-use mathlib.Core.Bool.{Bool, true, false, _||_}
-use Prim.Native.Nat.{ℕ, suc, _+_, _*_, _^_, _≤_, _<_}
+-- How far the angles of criterion 8 reach where it has a net area, and the areas between them.
+use mathlib.Core.Path.{_≡_, ap, sym}
+use mathlib.Core.Bool.{Bool, true, false}
+use Prim.Native.Nat.{ℕ, suc, _+_, _*_, _^_, _≤_}
 use native.Mathlib.Omega.{arith}
 use native.Mathlib.Nat.{mul-le-mul}
-use lib.Dec.{ltb}
 use lib.IntN.{ℤ, pos, negsuc, negℤ, natAbs, _-ℤ_, _*ℤ_}
-use lib.Signed.{leZ, mag}
-use borrow.Author.Tests.{lt-ltb, le-ltb}
-use Rattle.rules.specs.Curve.{Loaded, y, E, area}
+use lib.Signed.{leZ}
+use Rattle.rules.specs.Curve.{Loaded, y, area}
 use Rattle.rules.specs.Criteria.{lw1, lw2, units, phi0}
-use Rattle.rules.specs.Roll.{phi1, start, farthest, u, e, net, notJudged, noGust}
+use Rattle.rules.specs.Roll.{phi1, start, e}
 use Rattle.rules.specs.Ranges.{Fair}
 use Rattle.rules.proofs.Signed.{up, dn, Le, up-neg, dn-neg, up-add, dn-add}
 use Rattle.rules.proofs.Angles.{u-is, gust, e-is}
 use Rattle.curve.specs.Levers.{upTo}
 use Rattle.curve.proofs.Areas.{leeward, windward}
 use Rattle.curve.proofs.Curves.{lever-odd, fair-upright}
-use Rattle.roll.specs.declared.Roll.the-variants as Roll
-use Rattle.roll.specs.Rolls.{rollOf}
 use Rattle.roll.proofs.Angles.{angle-range}
 use Rattle.roll.proofs.Limits.{lw2-to}
-use Rattle.gust.specs.declared.Gust.{Gust}
-use Rattle.gust.specs.declared.Gust.the-variants.{NotJudged, Failed, Net}
-use Rattle.gust.specs.Gusts.{Blown, gustOf}
+use Rattle.gust.specs.Gusts.{Blown}
 use Rattle.gust.proofs.Machine.{abs-minus, abs-mul}
 use Rattle.gust.proofs.Limits.{upTo-within}
 
--- ---- the ways out
 module _ (c : Loaded) where
-  abbrev answer : Bool → Bool → Gust
-  answer off none = elim off [ true ↦ NotJudged | false ↦ elim none [ true ↦ Failed | false ↦ Net (pos (phi1 c)) (net c) ] ]
-
-  pub not-judged : notJudged c ≡ true → NotJudged ≡ gustOf c
-  unfolding gustOf
-  not-judged off = ap (λ (b : Bool). answer b (noGust c)) (sym off)
-
-  fails : notJudged c ≡ false → noGust c ≡ true → Failed ≡ gustOf c
-  unfolding gustOf
-  fails judged none = sym (ap (λ (b : Bool). answer b (noGust c)) judged ∙ ap (λ (b : Bool). answer false b) none)
-
-  -- 'Otherwise fail if phi0 is none.'
-  pub no-heel : notJudged c ≡ false → E c < phi0 c → Failed ≡ gustOf c
-  unfolding noGust
-  no-heel judged h = fails judged (simp (lt-ltb (E c) (phi0 c) h))
-
-  -- 'u .. none: fail.'
-  pub never-met : notJudged c ≡ false → phi0 c ≤ E c → farthest c < u c → Failed ≡ gustOf c
-  unfolding noGust
-  never-met judged h l = fails judged (simp (le-ltb (E c) (phi0 c) h, lt-ltb (farthest c) (u c) l))
-
-  pub met : phi0 c ≤ E c → u c ≤ farthest c → noGust c ≡ false
-  unfolding noGust
-  met h l = simp (le-ltb (E c) (phi0 c) h, le-ltb (farthest c) (u c) l)
-
-  pub has-net : Blown c → Net (pos (phi1 c)) (net c) ≡ gustOf c
-  unfolding gustOf
-  has-net blown = sym (ap (λ (b : Bool). answer b (noGust c)) (blown .judged) ∙ ap (λ (b : Bool). answer false b) (blown .met))
-
-  -- ---- what the roll says
-  pub no-roll : rollOf c ≡ Roll.NotJudged → notJudged c ≡ true
-  unfolding rollOf
-  no-roll = go (notJudged c)
-    where
-      go : (off : Bool) → elim off [ true ↦ Roll.NotJudged | false ↦ Roll.Angle (phi1 c) ] ≡ Roll.NotJudged → off ≡ true
-      go true h = refl
-      go false h = absurd (let z : _≡_ {A = ℕ} 0 1 = cc in omega arith)
-
-  pub rolls : (m : ℕ) → rollOf c ≡ Roll.Angle m → (notJudged c ≡ false) × (m ≡ phi1 c)
-  unfolding rollOf
-  rolls m = go (notJudged c)
-    where
-      go : (off : Bool) → elim off [ true ↦ Roll.NotJudged | false ↦ Roll.Angle (phi1 c) ] ≡ Roll.Angle m → (off ≡ false) × (m ≡ phi1 c)
-      go true h = absurd (let z : _≡_ {A = ℕ} 0 1 = cc in omega arith)
-      go false h = (refl, cc)
-
   -- ---- 'Start = phi0 if y(phi0) = lw1, else phi0 - 1; less phi1'
   begin : Bool → ℤ
   begin reached = elim reached [ true ↦ pos (phi0 c) -ℤ pos (phi1 c) | false ↦ pos (phi0 c) -ℤ pos 1 -ℤ pos (phi1 c) ]
@@ -100,7 +47,7 @@ mirrored : (c : Loaded) → Fair c → (a : ℤ) (t : ℕ) → Le a (pos t) → 
 mirrored c fair (pos a) t h = leeward (y c) a t (omega arith)
 mirrored c fair (negsuc a) t h = windward (y c) (lever-odd (c .kn) (c .kg) (fair-upright c fair)) (suc a) t
 
--- ---- the angles
+-- ---- how far they reach
 module _ (c : Loaded) (blown : Blown c) where
   pub heel-to : phi0 c ≤ 500
   heel-to = omega (arith, gust c (blown .met), u-is c .low)
