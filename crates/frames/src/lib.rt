@@ -72,18 +72,20 @@ fn entries(s: &[u8], line: usize, at: usize, depth: u64, t: book::Sums) -> LoadR
     let blocks::Begun::Block { tag, len } = blocks::header(s) else {
         return LoadRead::Refused(blocks::refusal(2, line, at));
     };
-    let body = &s[3..3 + len];
-    let rest = &s[3 + len..];
+    let end = 3 + len;
+    let body = &s[3..end];
+    let rest = &s[end..];
+    let body_at = at + 3;
     let b = blocks::block_at(tag, body, line, at, depth, MOST_ENTRIES - t.count);
     match b {
         blocks::Block::Refused(r) => LoadRead::Refused(r),
-        blocks::Block::Entry(e) => entries(rest, line, at + 3 + len, depth, add(t, e)),
+        blocks::Block::Entry(e) => entries(rest, line, body_at + len, depth, add(t, e)),
         blocks::Block::Group => {
-            let inner = entries(body, line, at + 3, depth - 1, t);
+            let inner = entries(body, line, body_at, depth - 1, t);
             let LoadRead::Sum(u) = inner else {
                 return inner;
             };
-            entries(rest, line, at + 3 + len, depth, u)
+            entries(rest, line, body_at + len, depth, u)
         }
     }
 }

@@ -7,7 +7,6 @@ use Rattle.rules.specs.Answers.{Ans, refused, got}
 use Rattle.book.specs.declared.Refusal.{Refusal}
 use Rattle.blocks.specs.Told.{refusal}
 use Rattle.reading.specs.Told.{told}
-use Rattle.reading.specs.declared.Answer.{Answer}
 use Rattle.reading.specs.declared.Answer.the-variants as answer
 use Rattle.reading.specs.declared.Read.{Read}
 use Rattle.reading.specs.declared.TextRead.{TextRead}

@@ -77,8 +77,8 @@ module _ (m : ℕ) where
       let h = c .before .before .before in
       rw (c .refusal .ensures) (sym (ap (loadRead _) (entries-short _ _ _ _ _ (omega arith) (head-short _ _ (h .header .ensures) (c .before .enum-told .given .1) _ _))))
 
-  add-body : lts.Need-add-body calls Pre reads.Post
-  add-body c = let h = head c in omega arith
+  add-end : lts.Need-add-end calls Pre reads.Post
+  add-end c = let h = head c in omega arith
 
   sub-body : lts.Need-sub-body calls Pre reads.Post
   sub-body c = search needs
@@ -89,9 +89,6 @@ module _ (m : ℕ) where
   part-body-end : lts.Need-part-body-end calls Pre reads.Post
   part-body-end c = let h = head c in omega arith
 
-  add-rest : lts.Need-add-rest calls Pre reads.Post
-  add-rest c = let h = head (c .before) in omega arith
-
   sub-rest : lts.Need-sub-rest calls Pre reads.Post
   sub-rest c = let h = head (c .before) in omega arith
 
@@ -100,6 +97,9 @@ module _ (m : ℕ) where
 
   part-rest-end : lts.Need-part-rest-end calls Pre reads.Post
   part-rest-end c = search needs
+
+  add-body-at : lts.Need-add-body-at calls Pre reads.Post
+  add-body-at c = omega (arith, start (c .before .before) .pre .1 .0)
 
   sub-block-at : lts.Need-sub-block-at calls Pre reads.Post
   sub-block-at c = omega (arith, start (c .before .before .before) .pre .1 .1 .count)
@@ -114,10 +114,7 @@ module _ (m : ℕ) where
   enum-known-b-2 c = search needs
 
   add-entries : lts.Need-add-entries calls Pre reads.Post
-  add-entries c = search needs
-
-  add-entries-2 : lts.Need-add-entries-2 calls Pre reads.Post
-  add-entries-2 c = let h = head (known (c .before .before .before)) in let q = start (known (c .before .before .before)) .pre .1 .0 in omega arith
+  add-entries c = let h = head (known (c .before .before .before)) in let q = start (known (c .before .before .before)) .pre .1 .0 in omega arith
 
   add-requires : lts.Need-add-requires calls Pre reads.Post
   add-requires c κs =
@@ -135,9 +132,6 @@ module _ (m : ℕ) where
 
   enum-told-2 : lts.Need-enum-told-2 calls Pre reads.Post
   enum-told-2 c = search needs
-
-  add-entries-3 : lts.Need-add-entries-3 calls Pre reads.Post
-  add-entries-3 c = search needs
 
   sub-entries : lts.Need-sub-entries calls Pre reads.Post
   sub-entries c =
@@ -166,11 +160,8 @@ module _ (m : ℕ) where
       c .enum-told3 .given .1
       ∙ sym (ap (loadRead _) (group-refused _ _ _ _ _ _ _ (h .1 _ _) (h .0) (told-group _ _ (b .block-at .ensures) (i .before .enum-told2 .given .1)) (load-refused _ _ _ (i .entries2 .ensures) _ (c .enum-told3 .given .1))))
 
-  add-entries-4 : lts.Need-add-entries-4 calls Pre reads.Post
-  add-entries-4 c = let b = c .before .before .before .before .before .before in let h = head (known b) in let q = start (known b) .pre .1 .0 in omega arith
-
-  add-entries-5 : lts.Need-add-entries-5 calls Pre reads.Post
-  add-entries-5 c = let b = c .before .before .before .before .before .before in let h = head (known b) in let q = start (known b) .pre .1 .0 in omega arith
+  add-entries-2 : lts.Need-add-entries-2 calls Pre reads.Post
+  add-entries-2 c = let b = c .before .before .before .before .before .before in let h = head (known b) in let q = start (known b) .pre .1 .0 in omega arith
 
   entries-requires-3 : lts.Need-entries-requires-3 calls Pre reads.Post
   entries-requires-3 c κs =
@@ -213,31 +204,28 @@ pub +entries-spec : {M : Type 1} → statement M
     (enum-told m)
     (refusal-requires m)
     (returns-2 m)
-    (add-body m)
+    (add-end m)
     (sub-body m)
     (part-body-start m)
     (part-body-end m)
-    (add-rest m)
     (sub-rest m)
     (part-rest-start m)
     (part-rest-end m)
+    (add-body-at m)
     (sub-block-at m)
     (block-at-requires m)
     (enum-known-b m)
     (enum-known-b-2 m)
     (add-entries m)
-    (add-entries-2 m)
     (add-requires m)
     (entries-requires m)
     (enum-told-2 m)
-    (add-entries-3 m)
     (sub-entries m)
     (entries-requires-2 m)
     (enum-known-inner m)
     (enum-told-3 m)
     (returns-3 m)
-    (add-entries-4 m)
-    (add-entries-5 m)
+    (add-entries-2 m)
     (entries-requires-3 m)
     (returns-4 m)
     (returns-5 m)
