@@ -81,10 +81,10 @@ module _ (m : ℕ) where
   add-end c = let h = head c in omega arith
 
   sub-body : lts.Need-sub-body calls Pre reads.Post
-  sub-body c = search needs
+  sub-body c = let h = head c in omega arith
 
   part-body-start : lts.Need-part-body-start calls Pre reads.Post
-  part-body-start c = search needs
+  part-body-start c = let h = head c in omega arith
 
   part-body-end : lts.Need-part-body-end calls Pre reads.Post
   part-body-end c = let h = head c in omega arith
