@@ -6,6 +6,7 @@ mod book;
 mod corpus;
 mod criteria;
 mod curve;
+mod exact;
 mod layout;
 mod line;
 mod loading;
@@ -27,7 +28,8 @@ use criteria::{judge, Judgement};
 use refusal::Refusal;
 
 const USAGE: &str = "usage: second judge | answers | places | cases [--small] \
-                     | corpus --seed S --count N [--small]";
+                     | corpus --seed S --count N [--small] \
+                     | roundings --seed S --count N";
 
 type Answer = Result<Judgement, Refusal>;
 
@@ -43,6 +45,10 @@ fn main() -> ExitCode {
         ["corpus", options @ ..] => match corpus_asked(options) {
             Some((corpus, count)) => write_corpus(&corpus, count),
             None => return usage(),
+        },
+        ["roundings", "--seed", seed, "--count", count] => match (seed.parse(), count.parse()) {
+            (Ok(seed), Ok(count)) => write_roundings(seed, count),
+            _ => return usage(),
         },
         _ => return usage(),
     };
@@ -93,6 +99,12 @@ fn write_corpus(corpus: &Corpus, count: u64) -> io::Result<()> {
     for number in 0..count {
         stream::write_text(&mut output, &corpus.text(number))?;
     }
+    output.flush()
+}
+
+fn write_roundings(seed: u64, count: u64) -> io::Result<()> {
+    let mut output = BufWriter::new(io::stdout().lock());
+    exact::Search::run(seed, count).print(&mut output)?;
     output.flush()
 }
 
