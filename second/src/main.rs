@@ -27,7 +27,7 @@ use corpus::Corpus;
 use criteria::{judge, Judgement};
 use refusal::Refusal;
 
-const USAGE: &str = "usage: second judge | answers | places | cases [--small] \
+const USAGE: &str = "usage: second judge | exact | answers | places | cases [--small] \
                      | corpus --seed S --count N [--small] \
                      | roundings --seed S --count N";
 
@@ -38,6 +38,7 @@ fn main() -> ExitCode {
     let words: Vec<&str> = arguments.iter().map(String::as_str).collect();
     let done = match words.as_slice() {
         ["judge"] => judge_one(),
+        ["exact"] => show_one(),
         ["answers"] => answer_all(report::report),
         ["places"] => answer_all(report::place),
         ["cases"] => write_names(&Corpus::new(0, false)),
@@ -67,13 +68,22 @@ fn usage() -> ExitCode {
     ExitCode::from(2)
 }
 
-fn judge_one() -> io::Result<()> {
+fn read_one() -> io::Result<Vec<u8>> {
     let mut text = Vec::new();
     let enough = text::MOST_CHARACTERS as u64 + 1;
     io::stdin().lock().take(enough).read_to_end(&mut text)?;
-    io::stdout()
-        .lock()
-        .write_all(report::report(&judge(&text)).as_bytes())
+    Ok(text)
+}
+
+fn judge_one() -> io::Result<()> {
+    let written = report::report(&judge(&read_one()?));
+    io::stdout().lock().write_all(written.as_bytes())
+}
+
+fn show_one() -> io::Result<()> {
+    let written = exact::table(&read_one()?)
+        .unwrap_or_else(|refusal| format!("refused with {}\n", refusal.number));
+    io::stdout().lock().write_all(written.as_bytes())
 }
 
 fn answer_all(written: fn(&Answer) -> String) -> io::Result<()> {

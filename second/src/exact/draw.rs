@@ -69,6 +69,7 @@ fn entries(dice: &mut Dice, mass: i128, kg: i128) -> (Vec<Entry>, i128) {
 
 /// Two rows with the mass between, that differ by a few millimetres.
 fn rows(dice: &mut Dice, mass: i128, middle: &Row) -> Vec<Row> {
+    let gaps = [(); 2].map(|()| dice.between(1, mass / 40));
     let mut row = |displacement: i128, side: i128| {
         let mut beside = |value: i128, most: i128| (value + side * dice.between(0, most)).max(0);
         Row {
@@ -83,10 +84,7 @@ fn rows(dice: &mut Dice, mass: i128, middle: &Row) -> Vec<Row> {
                 .collect(),
         }
     };
-    let reach = mass / 40;
-    let lower = row(mass - reach / 3, -1);
-    let upper = row(mass + reach, 1);
-    vec![lower, upper]
+    vec![row(mass - gaps[0], -1), row(mass + gaps[1], 1)]
 }
 
 fn drawn(dice: &mut Dice, form: &Form) -> Document {

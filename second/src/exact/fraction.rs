@@ -5,6 +5,7 @@ use std::cmp::Ordering;
 use std::ops::{Add, Mul, Neg, Sub};
 
 use super::big::Big;
+use crate::line::root_down;
 
 #[derive(Clone, Debug)]
 pub struct Fraction {
@@ -47,6 +48,16 @@ impl Fraction {
             above: &self.above * &other.below,
             below: &self.below * &other.above,
         }
+    }
+
+    /// The square root, where it is a fraction and 127 bits hold the product
+    /// of the two numbers.
+    pub fn root(&self) -> Option<Fraction> {
+        let (above, below) = (self.above.small()?, self.below.small()?);
+        let product = above.checked_mul(below)?;
+        let most = 1 << 125;
+        let root = root_down(Some(product).filter(|&product| product < most)?);
+        (root * root == product).then(|| Fraction::of(root, below))
     }
 
     pub fn size(&self) -> Fraction {
@@ -174,6 +185,8 @@ mod tests {
         assert_eq!(half.over(&third), Fraction::of(-3, 2));
         assert_eq!((half.floor(), half.ceiling()), (-1, 0));
         assert_eq!((third.floor(), third.ceiling()), (0, 1));
+        assert_eq!(Fraction::of(2, 98).root(), Some(Fraction::of(1, 7)));
+        assert!(third.root().is_none() && Fraction::whole(0).root().is_some());
         assert!(third > half && third.times(3).is_whole() && !half.is_whole());
         assert!(third.times(6).is_at_least(2) && !third.times(5).is_at_least(2));
     }

@@ -10,6 +10,7 @@ mod levers;
 mod roll;
 mod rounding;
 mod search;
+mod show;
 mod tally;
 mod tune;
 mod weather;
@@ -18,3 +19,4 @@ mod weather;
 mod tests;
 
 pub use search::Search;
+pub use show::table;

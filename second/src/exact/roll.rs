@@ -18,6 +18,9 @@ pub struct Held(pub Fraction, pub Fraction);
 
 /// The square root of a fraction, held.
 fn root(square: &Fraction) -> Held {
+    if let Some(exact) = square.root() {
+        return Held(exact.clone(), exact);
+    }
     let low = root_down(square.times(PARTS * PARTS).floor());
     let found = Fraction::of(low, PARTS);
     if &found * &found == *square {
@@ -119,7 +122,7 @@ mod tests {
             assert!(&low * &low <= square && &high * &high >= square);
             assert!(&high - &low <= Fraction::of(1, PARTS));
         }
-        let Held(low, high) = root(&Fraction::of(9, 4));
-        assert!(low == high && low == Fraction::of(3, 2));
+        let Held(low, high) = root(&Fraction::of(100, 49));
+        assert!(low == high && low == Fraction::of(10, 7));
     }
 }

@@ -7,12 +7,13 @@ use super::draw::text;
 use super::hull::Hull;
 use super::levers::Levers;
 use super::rounding::{choices, Kept};
+use super::show::word;
 use super::tally::{Example, Line, Tally, Used};
 use super::tune;
 use super::weather::{Verdicts, Weather};
 use crate::book::Document;
 use crate::corpus::dice::Dice;
-use crate::criteria::{judge_document, FAIL, PASS, WEATHER_END};
+use crate::criteria::{judge_document, PASS, WEATHER_END};
 use crate::curve::Y_PER_MILLIMETRE;
 
 /// A net within reach of the edge: a tenth of a metre-degree.
@@ -33,8 +34,8 @@ impl Search {
         for number in 0..count {
             let mut dice = Dice::new(seed, number);
             let drawn = match dice.index(20) {
-                0..=6 => tune::plain_edge(&mut dice),
-                7..=8 => tune::clean_edge(&mut dice),
+                0..=4 => tune::plain_edge(&mut dice),
+                5..=8 => tune::clean_edge(&mut dice),
                 9..=13 => tune::sagging_edge(&mut dice),
                 14..=15 => tune::humped(&mut dice),
                 16..=17 => tune::peak(&mut dice),
@@ -184,12 +185,4 @@ fn write_example(
     )?;
     writeln!(out, "note {curve}; {}", example.angles)?;
     writeln!(out, "{}", String::from_utf8_lossy(&example.text))
-}
-
-pub fn word(verdict: u8) -> &'static str {
-    match verdict {
-        FAIL => "fail",
-        PASS => "pass",
-        _ => "unjudged",
-    }
 }

@@ -2,7 +2,8 @@
 //! and the best text that passes by it.
 
 use super::rounding::choices;
-use super::weather::{Gust, Verdicts, Weather};
+use super::show::angles;
+use super::weather::{Verdicts, Weather};
 use crate::criteria::{Judgement, FAIL, NOT_JUDGED, PASS};
 
 /// A text on which document 01's verdict is better than the exact one.
@@ -107,7 +108,7 @@ impl Line {
             criterion: 8,
             used: (used.judged.verdicts[7], net),
             exact: (FAIL, figure),
-            angles: angles(used.verdicts, exact),
+            angles: both_angles(used.verdicts, exact),
             text: (used.text)(),
             rank,
         };
@@ -146,27 +147,10 @@ pub fn figure(verdicts: &Verdicts) -> i128 {
     }
 }
 
-fn angles(used: &Verdicts, exact: &Verdicts) -> String {
+fn both_angles(used: &Verdicts, exact: &Verdicts) -> String {
     format!(
         "phi1 start e: used {}; exact {}",
-        written(used),
-        written(exact)
+        angles(used),
+        angles(exact)
     )
-}
-
-fn written(verdicts: &Verdicts) -> String {
-    match &verdicts.weather {
-        Weather::Judged(Gust {
-            phi1, start, end, ..
-        }) => {
-            let shown = [&phi1.1, &start.0, end].map(|angle| hundredths(angle.times(100).floor()));
-            shown.join(" ")
-        }
-        _ => "none".to_string(),
-    }
-}
-
-fn hundredths(value: i128) -> String {
-    let sign = if value < 0 { "-" } else { "" };
-    format!("{sign}{}.{:02}", value.abs() / 100, value.abs() % 100)
 }

@@ -6,12 +6,13 @@ use std::path::PathBuf;
 
 use super::fraction::Fraction;
 use super::rounding::{choices, Kept};
-use super::search::{word, Search};
+use super::search::Search;
+use super::show::word;
 use super::tally::figure;
 use super::weather::{Verdicts, Weather};
 use crate::book::Document;
 use crate::corpus::Corpus;
-use crate::criteria::judge_document;
+use crate::criteria::{judge_document, AREA_30_TO_40, AREA_TO_30, AREA_TO_40};
 use crate::curve::SINES;
 use crate::parse::document;
 use crate::text::lines;
@@ -199,7 +200,7 @@ fn the_stored_examples_are_what_is_said_of_them() {
 /// What the page says of every curve, and of those that do not sag.
 #[test]
 fn a_short_search_bears_the_page_out() {
-    let search = Search::run(5, 250);
+    let search = Search::run(5, 120);
     assert!(search.greatest_gain(&["end"], false) <= 0);
     let of_the_roll = [
         "b", "C", "q", "n", "X1", "X2", "index", "k", "s", "p", "r", "phi1", "start", "angles",
@@ -207,6 +208,23 @@ fn a_short_search_bears_the_page_out() {
     assert!(search.greatest_gain(&of_the_roll, true) <= 0);
     assert!(search.greatest_gain(&of_the_roll, false) > 0);
     assert!(search.greatest_gain(&["KG", "KN", "lw1"], true) > 0);
+}
+
+/// By how much the limits of criteria 1 to 3 are above 0.055, 0.03 and 0.09
+/// metre-radians, in y units rounded down, for pi between two fractions.
+#[test]
+fn the_limits_are_stricter_by_so_much() {
+    let limits = [
+        (AREA_TO_30, 55, 12_678),
+        (AREA_30_TO_40, 30, 61_460),
+        (AREA_TO_40, 90, 84_382),
+    ];
+    for (limit, thousandths, stricter) in limits {
+        for pi in [314_159_265_358_979, 314_159_265_358_980] {
+            let radians = Fraction::of(thousandths * 180 * 10_i128.pow(22), pi);
+            assert_eq!((&Fraction::whole(limit) - &radians).floor(), stricter);
+        }
+    }
 }
 
 /// The sines to ten digits.

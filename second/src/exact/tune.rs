@@ -104,7 +104,9 @@ pub fn plain_edge(dice: &mut Dice) -> Option<Document> {
 pub fn clean_edge(dice: &mut Dice) -> Option<Document> {
     let mut document = clean(dice)?;
     balance(&mut document);
-    trim(&mut document, 5);
+    let lever = wind(&document)?.steady_lever;
+    blow(&mut document, lever - lever % 2)?;
+    trim(&mut document, 9);
     Some(document)
 }
 
