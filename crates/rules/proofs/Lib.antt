@@ -43,3 +43,4 @@ pub mod Cases
 pub mod Bench
 pub mod Slips
 pub mod Within
+pub mod Answer

@@ -4,6 +4,10 @@ use mathlib.Core.List.{List, _++_}
 use Prim.Native.Nat.{ℕ}
 use lib.Dec.{ltb}
 use lib.ListN.{length, drop}
+use Rattle.rules.specs.Numbers as numbers
+use Rattle.rules.specs.Text as characters
+use Rattle.rules.specs.Blocks as blocks
+use Rattle.rules.specs.Report as lines
 use Rattle.rules.specs.Layout.{Reading}
 use Rattle.rules.specs.Answers.{Ans, refused, got, _>>=_, _>>_}
 use Rattle.rules.specs.Walk.{read}
@@ -29,17 +33,16 @@ abbrev pub numberOf : Ans Judgement → ℕ
 numberOf (refused n l o) = n
 numberOf (got j) = 0
 
+-- (To unfold `reportOf` is to unfold all of the report.)
 unfoldable pub reportOf : Ans Judgement → List ℕ
-unfolding report
+unfolding numbers.digits characters.digit characters.hex blocks.block lines.concat lines.reportBody lines.reportLine report
 reportOf (refused n l o) = report n l o noJudgement
 reportOf (got j) = report 0 0 0 j
 
 -- The number that is sent back. 'Order: 9; then' the others.
 unfoldable pub number : List ℕ → List ℕ → ℕ
-unfolding answered
 number t buffer = elim (ltb (length buffer) reportLength) [ true ↦ 9 | false ↦ numberOf (answered t) ]
 
 -- The buffer at the end. 9: 'nothing written'. 'Bytes beyond those written keep their values.'
 unfoldable pub written : List ℕ → List ℕ → List ℕ
-unfolding answered reportOf
 written t buffer = elim (ltb (length buffer) reportLength) [ true ↦ buffer | false ↦ reportOf (answered t) ++ drop reportLength buffer ]

@@ -5,7 +5,7 @@ use Prim.Native.Nat.{ℕ}
 use lib.ListN.{replicate}
 use lib.IntN.{ℤ, pos}
 use Rattle.rules.specs.Numbers.{digits, twos}
-use Rattle.rules.specs.Text.{LF, digit, hex}
+use Rattle.rules.specs.Text.{LF, hex}
 use Rattle.rules.specs.Blocks.{block}
 use Rattle.rules.specs.Rounding as rounding
 use Rattle.rules.specs.Curve as curve
@@ -73,5 +73,4 @@ unfoldable pub reportLine : ℕ → ℕ → ℕ → List ℕ → List ℤ → Li
 reportLine number line offset verdicts figures = hex (block reportTag (reportBody number line offset verdicts figures)) ++ (LF ∷ [])
 
 unfoldable pub report : ℕ → ℕ → ℕ → Judgement → List ℕ
-unfolding digits digit hex block concat reportBody reportLine
 report number line offset j = reportLine number line offset (map verdictNumber (j .verdicts)) (j .figures)

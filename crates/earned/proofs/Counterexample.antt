@@ -1,0 +1,88 @@
+-- What the condition of criterion 8's theorem excludes: a text that passes all eight with a net of +23,824,000, and whose exact b - a is below zero. Its curve lies below -lw2 from 4.8 degrees to the start.
+use mathlib.Core.Path.{_≡_, refl, ap, _∙_}
+use mathlib.Core.Bool.{false}
+use mathlib.Core.List.{[], _∷_}
+use Prim.Native.Nat.{ℕ, _+_, _*_}
+use native.Mathlib.Omega.{arith}
+use lib.ListN.{replicate}
+use lib.IntN.{ℤ, pos, negℤ, _+ℤ_, _-ℤ_, _*ℤ_}
+use Rattle.rules.specs.Answers.{got}
+use Rattle.rules.specs.Walk.{read}
+use Rattle.rules.specs.Answer.{answered}
+use Rattle.rules.specs.Rounding.{sumZ}
+use Rattle.rules.specs.Curve.{Loaded, loaded, y}
+use Rattle.rules.specs.Criteria.{lw2}
+use Rattle.rules.specs.Roll.{phi1, start, farthest, net, noGust}
+use Rattle.rules.specs.Report.{pass, judgement}
+use Rattle.rules.proofs.Signed.{up, dn, eq!, add≡, diff≡}
+use Rattle.earned.specs.Example.{text, reading}
+use Rattle.earned.specs.Gust.{yBy, phi0By, startBy, eBy, netBy, gusts, Exactly, NowhereBelow}
+use Rattle.earned.proofs.Grid.{over, part}
+use Rattle.earned.proofs.Eighth.{straight, pieces}
+use Rattle.earned.proofs.Exactly.{heel-at, heel-meets, end-far}
+
+pub reads : read text ≡ got reading
+unfolding read
+reads = refl
+
+-- All eight pass; the last figure is the net.
+pub judges : answered text ≡ got (record {
+  verdicts = replicate 8 pass;
+  figures = pos 30_000_000 ∷ pos 16_000 ∷ pos 1_400 ∷ pos 593_090_000_000 ∷ pos 617_700_000_000 ∷ pos 1_210_790_000_000 ∷ pos 3_271_800_000 ∷ pos 400 ∷ pos 132 ∷ pos 187 ∷ pos 23_824_000 ∷ [];
+})
+unfolding answered
+judges = refl
+
+-- ---- the exact figure: 22,107 parts of a tenth, at which the curve has lw1 exactly
+abbrev pub loading : Loaded
+loading = loaded reading
+
+abbrev pub parts : ℕ
+parts = 22_107
+
+begins : y loading (pos 0) ≡ pos 0
+unfolding loaded judgement
+begins = refl
+
+gusty : noGust loading ≡ false
+unfolding loaded judgement
+gusty = refl
+
+-- phi0 lies 12,683 parts beyond 13.1 degrees; e is the flooding angle, 45 degrees.
+heel : phi0By parts loading ≡ parts * 131 + 12_683
+unfolding loaded judgement
+heel = heel-at parts (omega arith) loading begins gusty 131 12_683 9_424 refl refl refl
+
+last : eBy parts loading ≡ parts * farthest loading
+unfolding loaded judgement
+last = end-far parts (omega arith) loading begins gusty refl
+
+pub exactly : Exactly parts loading
+unfolding loaded judgement
+exactly = record { heel = heel-meets parts (omega arith) loading begins gusty 131 12_683 9_424 refl refl refl; end = λ h. absurd (omega (arith, last)) }
+
+abbrev level : ℕ
+level = 5_000_000 * lw2 loading
+
+-- The roll used, 18.7 degrees.
+abbrev pub roll : ℕ
+roll = parts * phi1 loading
+
+from-start : startBy parts roll loading ≡ pos parts *ℤ start loading +ℤ pos 12_683
+unfolding startBy loaded judgement
+from-start = ap (λ (x : ℕ). pos x -ℤ pos roll) heel
+
+-- -32,894,216,979,796,000 / 22,107² is -67,306,953.
+pub b-less-a : netBy parts roll loading ≡ negℤ (pos 32_894_216_979_796_000)
+unfolding loaded judgement sumZ
+b-less-a =
+    let before = part parts (over (yBy parts loading) (parts * level)) (over (y loading) level) (straight parts (omega arith) loading begins) 12_683 9_424 refl (start loading) in
+    go (netBy parts roll loading) (sumZ (gusts parts loading) 12_683 (pos parts *ℤ start loading)) (pos (parts * parts) *ℤ net loading) (pieces parts (omega arith) loading begins roll 12_683 0 506 from-start last refl (omega arith)) ∙ ap (λ (z : ℤ). pos (parts * parts) *ℤ net loading -ℤ z) before
+  where
+    go : (x a b : ℤ) → x +ℤ a ≡ b +ℤ pos 0 → x ≡ b -ℤ a
+    go x a b h = eq! x (b -ℤ a) (omega (arith, add≡ x a, add≡ b (pos 0), diff≡ b a, ap up h, ap dn h))
+
+-- 5 degrees, for one, is within the reach of the windward side.
+pub excluded : NowhereBelow loading → ⊥
+unfolding loaded judgement
+excluded h = omega (arith, h 50 (omega arith))

@@ -1,0 +1,98 @@
+-- A hull that is no worse keeps every pass of criteria 1, 2, 3, 4, 6 and 7, across denominators.
+use mathlib.Core.Path.{_≡_, refl, sym}
+use mathlib.Core.Bool.{Bool, true, false, _&&_}
+use mathlib.Core.List.{List, [], _∷_, map}
+use Prim.Native.Nat.{ℕ, zero, suc, _-_, _*_, _≤_, _<_, min}
+use native.Mathlib.Omega.{arith}
+use native.Mathlib.Nat.{mul-le-mul-right, mul-zero}
+use lib.Dec.{leb, ltb}
+use lib.ListN.{getD}
+use lib.IntN.{ℤ, pos, subℕ}
+use lib.Signed.{leZ}
+use borrow.Author.Tests.{leb-true, le-leb}
+use Rattle.rules.specs.Rounding.{peak}
+use Rattle.rules.specs.Blocks.{Weather}
+use Rattle.rules.specs.Curve.{Loaded, area}
+use Rattle.rules.specs.Criteria as criteria
+use Rattle.rules.specs.Criteria.{code, passes1, passes2, passes3, passes4, passes6, passes7, area1, area2, area3}
+use Rattle.rules.proofs.Signed.{at-least, le-true}
+use Rattle.earned.specs.Order.{NoLess, Hull, Better, finer, curve, Follows}
+use Rattle.earned.specs.Verdicts.{Criterion, one, two, three, four, six, seven, limitOver, greatestLever, phi0, passesOver, passes, used, Behind}
+use Rattle.earned.proofs.Order.{difference, reached, order}
+
+-- ---- tests
+both : (a b a′ b′ : Bool) → (a ≡ true → a′ ≡ true) → (b ≡ true → b′ ≡ true) → a && b ≡ true → a′ && b′ ≡ true
+both true b true b′ f g h = g h
+both true b false b′ f g h = f refl
+both false b a′ b′ f g h = let z : _≡_ {A = ℕ} 0 1 = cc in absurd (omega arith)
+
+less : (a b n : ℕ) → b ≤ a → leb a n ≡ true → leb b n ≡ true
+less a b n l h = le-leb b n (omega (arith, leb-true a n h))
+
+-- ---- from the denominator D to D′, under one sky
+module _ (m n D D′ : ℕ) (some : 0 < n) (scale : n * D′ ≤ m * D) (c : Weather) (h h′ : Hull) (better : Better m n h h′) where
+  follows : Follows m n (curve h) (curve h′)
+  follows = order m n some h h′ better
+
+  limit : (l : ℕ) → n * limitOver D′ l ≤ m * limitOver D l
+  limit l = omega (arith, mul-le-mul-right l scale)
+
+  at-least-so : (l : ℕ) (a b : ℤ) → NoLess m n a b → leZ (pos (limitOver D l)) a ≡ true → leZ (pos (limitOver D′ l)) b ≡ true
+  at-least-so l a b k p = le-true (pos (limitOver D′ l)) b (reached m n some (limitOver D l) (limitOver D′ l) a b (limit l) k (at-least (pos (limitOver D l)) a p))
+
+  area-keeps : (l p q : ℕ) → leZ (pos (limitOver D l)) (area (curve h) (pos p) (pos q)) ≡ true → leZ (pos (limitOver D′ l)) (area (curve h′) (pos p) (pos q)) ≡ true
+  area-keeps l p q = at-least-so l (area (curve h) (pos p) (pos q)) (area (curve h′) (pos p) (pos q)) (follows .areas p q)
+
+  greatest-keeps : (e : ℕ) → NoLess m n (greatestLever e h) (greatestLever e h′)
+  unfolding greatestLever
+  greatest-keeps e = go (ltb e 300)
+    where
+      go : (b : Bool) → NoLess m n (elim b [ true ↦ pos 0 | false ↦ curve h (pos (peak (λ t. curve h (pos t)) 300 (e - 300))) ]) (elim b [ true ↦ pos 0 | false ↦ curve h′ (pos (peak (λ t. curve h′ (pos t)) 300 (e - 300))) ])
+      go true = omega arith
+      go false = follows .greatest 300 (e - 300)
+
+  heel-keeps : (e : ℕ) → phi0 e h′ ≤ phi0 e h
+  unfolding phi0
+  heel-keeps e = follows .level (5_000_000 * h .lw1) (5_000_000 * h′ .lw1) (omega (arith, better .lw1)) 0 e
+
+  pub keeps : (k : Criterion) → passesOver D k c h ≡ true → passesOver D′ k c h′ ≡ true
+  unfolding passesOver
+  keeps one = area-keeps (code .area1) 0 (min 300 (c .flooding))
+  keeps two = area-keeps (code .area2) 300 (min 400 (c .flooding))
+  keeps three = area-keeps (code .area3) 0 (min 400 (c .flooding))
+  keeps four = both (leb 300 (c .flooding)) (leZ (pos (limitOver D (code .lever))) (greatestLever (c .flooding) h)) (leb 300 (c .flooding)) (leZ (pos (limitOver D′ (code .lever))) (greatestLever (c .flooding) h′)) (λ p. p) (at-least-so (code .lever) (greatestLever (c .flooding) h) (greatestLever (c .flooding) h′) (greatest-keeps (c .flooding)))
+  keeps six = at-least-so (code .gm) (subℕ (h .km) (h .kg)) (subℕ (h′ .km) (h′ .kg)) (difference m n (h .km) (h .kg) (h′ .km) (h′ .kg) (better .km) (better .kg))
+  keeps seven = go (phi0 (c .flooding) h) (phi0 (c .flooding) h′) (heel-keeps (c .flooding))
+    where
+      go : (a b : ℕ) → b ≤ a → leb a (c .flooding) && leb a (code .heel) && leb (10 * a) (8 * c .deckEdge) ≡ true → leb b (c .flooding) && leb b (code .heel) && leb (10 * b) (8 * c .deckEdge) ≡ true
+      go a b l = both (leb a (c .flooding) && leb a (code .heel)) (leb (10 * a) (8 * c .deckEdge)) (leb b (c .flooding) && leb b (code .heel)) (leb (10 * b) (8 * c .deckEdge)) (both (leb a (c .flooding)) (leb a (code .heel)) (leb b (c .flooding)) (leb b (code .heel)) (less a b (c .flooding) l) (less a b (code .heel) l)) (less (10 * a) (10 * b) (8 * c .deckEdge) (omega arith))
+
+-- ---- the judgement's verdicts are these, over 1
+pub over-one : (k : Criterion) (c : Loaded) → passesOver 1 k (c .weather) (used c) ≡ passes k c
+unfolding passesOver greatestLever phi0 passes1 passes2 passes3 passes4 passes6 passes7 area1 area2 area3 criteria.greatestLever criteria.phi0
+over-one one c = refl
+over-one two c = refl
+over-one three c = refl
+over-one four c = refl
+over-one six c = refl
+over-one seven c = refl
+
+-- A pass with the numbers used is a pass with any exact values behind them.
+pub earned : (D : ℕ) (h : Hull) (c : Loaded) → Behind D h c → (k : Criterion) → passes k c ≡ true → passesOver D k (c .weather) h ≡ true
+earned D h c b k p = keeps D 1 1 D (omega arith) (omega arith) (c .weather) (used c) h b k (rw over-one p)
+
+-- ---- the verdict does not depend on the denominator
+getD-finer : (S : ℕ) (l : List ℕ) (i : ℕ) → getD (map (λ v. S * v) l) i 0 ≡ S * getD l i 0
+getD-finer S [] i = sym (mul-zero S)
+getD-finer S (v ∷ l) zero = refl
+getD-finer S (v ∷ l) (suc i) = getD-finer S l i
+
+pub same-verdict : (S D : ℕ) → 0 < S → (c : Weather) (h : Hull) (k : Criterion) → passesOver (S * D) k c (finer S h) ≡ passesOver D k c h
+same-verdict S D some c h k = same (passesOver (S * D) k c (finer S h)) (passesOver D k c h)
+    (keeps 1 S (S * D) D some (omega arith) c (finer S h) h (record { kn = λ i. omega (arith, getD-finer S (h .kn) i); km = omega arith; kg = omega arith; lw1 = omega arith }) k)
+    (keeps S 1 D (S * D) (omega arith) (omega arith) c h (finer S h) (record { kn = λ i. omega (arith, getD-finer S (h .kn) i); km = omega arith; kg = omega arith; lw1 = omega arith }) k)
+  where
+    same : (a b : Bool) → (a ≡ true → b ≡ true) → (b ≡ true → a ≡ true) → a ≡ b
+    same true b f g = sym (f refl)
+    same false true f g = g refl
+    same false false f g = refl

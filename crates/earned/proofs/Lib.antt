@@ -1,0 +1,16 @@
+pub mod Promises
+pub mod Order
+pub mod Keeps
+pub mod Exact
+pub mod Fifth
+pub mod Limits
+pub mod Steps
+pub mod Grid
+pub mod Upright
+pub mod Finer
+pub mod Eighth
+pub mod Exactly
+pub mod Falling
+pub mod Rolling
+pub mod Cases
+pub mod Counterexample

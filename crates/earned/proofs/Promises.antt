@@ -1,0 +1,152 @@
+-- Which roundings favour the ship: what is proved, to be read without the proofs. Each theorem has a sentence above it, and its proof stands elsewhere.
+-- Its words are defined in specs/: Order (hulls over a denominator), Verdicts (criteria 1 to 4, 6 and 7 over one), Exact (the values of a reading before they are rounded), Limits (metre-radians), Gust (criterion 8 at parts of a tenth), Rolling (the roll before it is rounded).
+use mathlib.Core.Path.{_≡_, refl}
+use mathlib.Core.Bool.{true, false}
+use mathlib.Core.List.{[], _∷_}
+use Prim.Native.Nat.{ℕ, _+_, _-_, _*_, _≤_, _<_}
+use native.Mathlib.Omega.{arith}
+use lib.ListN.{getD, replicate}
+use lib.IntN.{ℤ, pos, negℤ, _+ℤ_, _*ℤ_}
+use lib.Signed.{leZ}
+use Rattle.rules.specs.Rounding.{sumZ}
+use Rattle.rules.specs.Blocks.{Weather}
+use Rattle.rules.specs.Layout.{Reading, Limits}
+use Rattle.rules.specs.Answers.{got}
+use Rattle.rules.specs.Walk.{read}
+use Rattle.rules.specs.Loading.{weighed}
+use Rattle.rules.specs.Curve.{Loaded, loaded}
+use Rattle.rules.specs.Criteria.{code, passes5}
+use Rattle.rules.specs.Roll.{period, phi1, start, e, net, notJudged, noGust}
+use Rattle.rules.specs.Report.{pass, void, verdict, verdict8, judgement}
+use Rattle.rules.specs.Ranges.{Fair}
+use Rattle.rules.specs.Answer.{answered}
+use Rattle.rules.proofs.Signed.{Le, le-true, up-mull, dn-mull}
+use Rattle.rules.proofs.Fair.{fair}
+use Rattle.rules.proofs.Ranges.{judged}
+use Rattle.earned.specs.Order.{NoLess, Hull, finer, Better, curve, Follows}
+use Rattle.earned.specs.Verdicts.{Criterion, one, two, three, four, six, seven, passesOver, passesFifth, passes, place, used, Behind}
+use Rattle.earned.specs.Exact.{over, exact, Fractions}
+use Rattle.earned.specs.Limits.{PiFrom, PiTo, Covers}
+use Rattle.earned.specs.Example.{text, reading}
+use Rattle.earned.specs.Gust.{startBy, eBy, netBy, gusts, Exactly, NowhereBelow}
+use Rattle.earned.specs.Rolling.{NoShorter, WithinRoll}
+use Rattle.earned.proofs.Order as orders
+use Rattle.earned.proofs.Keeps as keeping
+use Rattle.earned.proofs.Exact as exacts
+use Rattle.earned.proofs.Limits as limits
+use Rattle.earned.proofs.Fifth as angle
+use Rattle.earned.proofs.Upright.{upright}
+use Rattle.earned.proofs.Eighth as gust
+use Rattle.earned.proofs.Rolling as rolling
+use Rattle.earned.proofs.Exactly as grid
+use Rattle.earned.proofs.Counterexample as counter
+
+-- ---- the order of the levers
+-- A KG no greater and KN no less: no lever to leeward is less, nor is an area, nor the greatest lever; and a level is reached no later. Over any two denominators.
+pub order : (m n : ℕ) → 0 < n → (h h′ : Hull) → Better m n h h′ → Follows m n (curve h) (curve h′)
+order = orders.order
+
+-- The order above is that of m a and n b.
+pub order-is : (m n : ℕ) (a b : ℤ) → NoLess m n a b → leZ (pos m *ℤ a) (pos n *ℤ b) ≡ true
+order-is m n a b h = le-true (pos m *ℤ a) (pos n *ℤ b) (omega (arith, up-mull m a, dn-mull m a, up-mull n b, dn-mull n b))
+
+-- ---- criteria 1, 2, 3, 4, 6 and 7
+-- The verdicts below are those of the judgement.
+pub verdict-is : (k : Criterion) (c : Loaded) → getD (judgement c .verdicts) (place k) void ≡ verdict (passes k c)
+unfolding judgement
+verdict-is one c = refl
+verdict-is two c = refl
+verdict-is three c = refl
+verdict-is four c = refl
+verdict-is six c = refl
+verdict-is seven c = refl
+
+-- Take any exact values, over any denominator, that were rounded to those used: KG and lw1 no greater, KN and KM no less. A pass with the numbers used is a pass with the exact ones. So none of these six is owed to a rounding of KG, KN, KM or lw1.
+pub pass-is-earned : (D : ℕ) (h : Hull) (c : Loaded) → Behind D h c → (k : Criterion) → passes k c ≡ true → passesOver D k (c .weather) h ≡ true
+pass-is-earned = keeping.earned
+
+-- Over 1, with the numbers used, the exact verdict is the judgement's own.
+pub over-one : (k : Criterion) (c : Loaded) → passesOver 1 k (c .weather) (used c) ≡ passes k c
+over-one = keeping.over-one
+
+-- The denominator does not matter: every number S times as fine gives the same verdict.
+pub same-verdict : (S D : ℕ) → 0 < S → (c : Weather) (h : Hull) (k : Criterion) → passesOver (S * D) k c (finer S h) ≡ passesOver D k c h
+same-verdict = keeping.same-verdict
+
+-- The exact values of a reading that is judged are such values.
+pub exact-values : (R : Reading) → Limits R → weighed R ≡ got tt → (0 < over R) × Behind (over R) (exact R) (loaded R)
+exact-values R l w = (exacts.over-pos R l w, exacts.exact-behind R l w)
+
+-- And they are exact: KG is the moments with free surface by W, KN and KM lie on the straight line between any two neighbouring rows around W, and lw1 is 5040 x wind area x Z by 981 x W.
+pub exact-fractions : (R : Reading) → Limits R → Fractions R (exact R)
+exact-fractions = exacts.exact-fractions
+
+-- So for a reading: a pass of one of the six is a pass with its exact values.
+pub reading-is-earned : (R : Reading) → Limits R → weighed R ≡ got tt → (k : Criterion) → passes k (loaded R) ≡ true → passesOver (over R) k (loaded R .weather) (exact R) ≡ true
+reading-is-earned R l w = keeping.earned (over R) (exact R) (loaded R) (exacts.exact-behind R l w)
+
+-- Criterion 5 is not among them, for a KN rounded down can move the greatest lever out. But with KN as used, no pass of it is owed to the rounding of KG.
+pub fifth-is-earned : (D : ℕ) → 0 < D → (h : Hull) (c : Loaded) → Fair c → Behind D h c → ((i : ℕ) → getD (h .kn) i 0 ≡ D * getD (c .kn) i 0) → passes5 c ≡ true → passesFifth (c .weather) h ≡ true
+fifth-is-earned = angle.fifth
+
+-- ---- the limits of criteria 1 to 3
+-- For every value of pi from 3.1415926 on they are at least 0.055, 0.03 and 0.09 m·rad.
+pub limits-cover : (num den : ℕ) → PiFrom num den → Covers num den (code .area1) 55 × Covers num den (code .area2) 30 × Covers num den (code .area3) 90
+limits-cover = limits.limits-cover
+
+-- And by less than 100,000 y units, a millionth of a metre-degree: so much less would not do.
+pub limits-least : (num den : ℕ) → 0 < den → PiTo num den → (¬ Covers num den (code .area1 - 100_000) 55) × (¬ Covers num den (code .area2 - 100_000) 30) × (¬ Covers num den (code .area3 - 100_000) 90)
+limits-least = limits.limits-least
+
+-- ---- criterion 8
+-- Where it is judged the roll is at least 6.4 degrees.
+pub roll-from : (c : Loaded) → notJudged c ≡ false → 64 ≤ phi1 c
+roll-from c h = gust.roll-from c (judged c h)
+
+-- A pass of criterion 8 is a pass of b - a summed at any parts of a tenth, where y lies nowhere below -lw2 from 0 to the reach of the windward side: with phi1 as used, or with any smaller roll.
+pub eighth-is-earned : (R : Reading) → Limits R → weighed R ≡ got tt → NowhereBelow (loaded R) → verdict8 (loaded R) ≡ pass → (q : ℕ) → 0 < q → (roll : ℕ) → 0 < roll → roll ≤ q * phi1 (loaded R) → Le (pos 0) (netBy q roll (loaded R))
+eighth-is-earned R l w high v q some = gust.eighth q some (loaded R) (upright (loaded R) (fair R l w)) v high
+
+-- The exact roll is such a roll: with k, X1, X2 and s by tables that are not rounded, over any M, at a B/d and a keel index that are not rounded and at any period x / D no shorter than the one used; with r and the root not rounded. All from the d, KM and KG used.
+pub roll-is-earned : (R : Reading) → Limits R → weighed R ≡ got tt → notJudged (loaded R) ≡ false → (M D x : ℕ) → 0 < D → D * period (loaded R) ≤ x → (q roll : ℕ) → WithinRoll M D x (loaded R) q roll → roll ≤ q * phi1 (loaded R)
+roll-is-earned R l w h = rolling.roll-least (loaded R) (fair R l w) (judged (loaded R) h)
+
+-- And the exact period, with b, C and q not rounded, is no shorter than the one used.
+pub period-is-earned : (R : Reading) → Limits R → weighed R ≡ got tt → notJudged (loaded R) ≡ false → (D x : ℕ) → NoShorter D x (loaded R) → D * period (loaded R) ≤ x
+period-is-earned R l w h = rolling.period-least (loaded R) (fair R l w) (judged (loaded R) h)
+
+-- There are parts fine enough, and so is any multiple of them: there phi0 is where the curve has lw1, and e where it falls below lw2, or min(E, 500). So b - a itself, at its exact angles, is among these figures.
+pub exact-angles : (R : Reading) → Limits R → weighed R ≡ got tt → noGust (loaded R) ≡ false → (Q : ℕ) × (0 < Q) × ((k : ℕ) → 0 < k → Exactly (k * Q) (loaded R))
+exact-angles R l w h = grid.fine-enough (loaded R) (upright (loaded R) (fair R l w)) h
+
+-- b - a, q² times, is the net used, less the piece from the start used to the exact one, i parts wide, and with the piece left off after e, j parts wide.
+pub net-and-pieces : (R : Reading) → Limits R → weighed R ≡ got tt → (q : ℕ) → 0 < q → (roll i j n : ℕ) → startBy q roll (loaded R) ≡ pos q *ℤ start (loaded R) +ℤ pos i → eBy q (loaded R) ≡ q * e (loaded R) + j → pos (e (loaded R)) ≡ start (loaded R) +ℤ pos n → i ≤ q * n → netBy q roll (loaded R) +ℤ sumZ (gusts q (loaded R)) i (pos q *ℤ start (loaded R)) ≡ pos (q * q) *ℤ net (loaded R) +ℤ sumZ (gusts q (loaded R)) j (pos (q * e (loaded R)))
+net-and-pieces R l w q some = gust.pieces q some (loaded R) (upright (loaded R) (fair R l w))
+
+-- The piece left off after e is never below zero, whatever the curve: so u and e never favour the ship.
+pub end-is-earned : (R : Reading) → Limits R → weighed R ≡ got tt → noGust (loaded R) ≡ false → (q : ℕ) → 0 < q → (j : ℕ) × (eBy q (loaded R) ≡ q * e (loaded R) + j) × Le (pos 0) (sumZ (gusts q (loaded R)) j (pos (q * e (loaded R))))
+end-is-earned R l w h q some = gust.end-piece q some (loaded R) (upright (loaded R) (fair R l w)) h
+
+-- ---- what the condition excludes
+-- A text that passes all eight, with a net of +23,824,000 ..
+pub counterexample-passes : answered text ≡ got (record {
+  verdicts = replicate 8 pass;
+  figures = pos 30_000_000 ∷ pos 16_000 ∷ pos 1_400 ∷ pos 593_090_000_000 ∷ pos 617_700_000_000 ∷ pos 1_210_790_000_000 ∷ pos 3_271_800_000 ∷ pos 400 ∷ pos 132 ∷ pos 187 ∷ pos 23_824_000 ∷ [];
+})
+counterexample-passes = counter.judges
+
+-- .. which is read so ..
+pub counterexample-reads : read text ≡ got reading
+counterexample-reads = counter.reads
+
+-- .. and at 22,107 parts of a tenth, where its angles are exact ..
+pub counterexample-exact : Exactly 22_107 (loaded reading)
+counterexample-exact = counter.exactly
+
+-- .. its b - a, 22,107² times, is -32,894,216,979,796,000: it is -67,306,953.
+pub counterexample-below : netBy 22_107 (22_107 * phi1 (loaded reading)) (loaded reading) ≡ negℤ (pos 32_894_216_979_796_000)
+counterexample-below = counter.b-less-a
+
+-- Its curve is not one of those above.
+pub counterexample-excluded : ¬ NowhereBelow (loaded reading)
+counterexample-excluded = counter.excluded

@@ -1,0 +1,66 @@
+-- `condition_in` meets its contract: alone on its line, no longer than 4,096, and what is inside: 3, 5.
+use mathlib.Core.Path.{ap, sym, _∙_}
+use borrow.Author.Needs.{needs}
+use denote.Ref.{now}
+use Rattle.rules.proofs.FrameWays.{condition-longer, condition-over, condition-whole}
+use Rattle.frames.specs.Told.{conditionRead}
+use Rattle.frames.proofs.condition_in.Statement.{statement}
+use Rattle.frames.proofs.condition_in.Tie as tie
+
+add-if1 : tie.Need-add-if1
+add-if1 c = search needs
+
+refusal-requires : tie.Need-refusal-requires
+refusal-requires c κs = search needs
+
+returns : tie.Need-returns
+returns c =
+    let i = c .before in
+    let s = i .before .before in
+    rw (c .refusal .ensures) (sym (ap conditionRead (condition-longer _ 0xA3 _ (now (s .args .s)) (s .pre) (i .if1 .taken))))
+
+refusal-requires-2 : tie.Need-refusal-requires-2
+refusal-requires-2 c κs = search needs
+
+returns-2 : tie.Need-returns-2
+returns-2 c =
+    let i = c .before in
+    let s = i .before .before .before in
+    rw (c .refusal2 .ensures) (sym (ap conditionRead (condition-over _ 0xA3 _ (now (s .args .s)) (s .pre) (i .before .if1 .left) (i .if2 .taken))))
+
+add-inside : tie.Need-add-inside
+add-inside c = search needs
+
+sub-inside : tie.Need-sub-inside
+sub-inside c = search needs
+
+part-inside-start : tie.Need-part-inside-start
+part-inside-start c = search needs
+
+part-inside-end : tie.Need-part-inside-end
+part-inside-end c = search needs
+
+inside-requires : tie.Need-inside-requires
+inside-requires c κs = search needs
+
+returns-3 : tie.Need-returns-3
+returns-3 c =
+    let i = c .before .before in
+    let s = i .before .before .before in
+    c .inside .ensures ∙ sym (ap conditionRead (condition-whole _ 0xA3 _ (now (s .args .s)) (s .pre) (i .before .if1 .left) (i .if2 .left)))
+
+pub condition-in-spec : {M : Type 1} → statement M
+condition-in-spec =
+    tie.close
+    (tie.spec
+    add-if1
+    refusal-requires
+    returns
+    refusal-requires-2
+    returns-2
+    add-inside
+    sub-inside
+    part-inside-start
+    part-inside-end
+    inside-requires
+    returns-3)

@@ -1,0 +1,4 @@
+pub mod Machine
+pub mod Limits
+pub mod Ways
+pub mod Angles

@@ -1,0 +1,73 @@
+-- `instrument::judge_reading` meets its contract: 7 or 8 by the weighing, else the judgement of the loaded ship.
+use mathlib.Core.Path.{sym, _∙_}
+use borrow.Author.Needs.{needs}
+use native.Mathlib.Omega.{arith}
+use Rattle.instrument.proofs.Joined.{no-place, sound-of, whole-of, sent-weighed, in-table, fair-of, sent-loaded}
+use Rattle.instrument.proofs.judge_reading.Statement.{statement}
+use Rattle.instrument.proofs.judge_reading.Tie as tie
+
+weigh-requires : tie.Need-weigh-requires
+weigh-requires c κs = let T = c .before .pre .1 in sound-of (T .0) _ _ (T .1)
+
+enum-known-weighed : tie.Need-enum-known-weighed
+enum-known-weighed c = search needs
+
+refuse-requires : tie.Need-refuse-requires
+refuse-requires c κs =
+    let m = c .before .before in
+    let z = no-place _ _ _ (sym (m .weighed .given .1) ∙ m .before .before .weigh .ensures) in
+    (search needs, (omega (arith, z .0), omega (arith, z .1)))
+
+enum-known-weighed-2 : tie.Need-enum-known-weighed-2
+enum-known-weighed-2 c = search needs
+
+loaded-requires : tie.Need-loaded-requires
+loaded-requires c κs =
+    let m = c .before in
+    let T = m .before .before .before .before .pre .1 in
+    (whole-of (T .0) _ _ (T .1), in-table (T .0) _ _ (T .1) _ _ (sym (m .weighed2 .given .1) ∙ m .before .before .weigh .ensures))
+
+judge-requires : tie.Need-judge-requires
+judge-requires c κs =
+    let m = c .before .before in
+    let T = m .before .before .before .before .pre .1 in
+    fair-of (T .0) _ _ (T .1) _ _ (sym (m .weighed2 .given .1) ∙ m .before .before .weigh .ensures) (c .loaded .result) (c .loaded .ensures)
+
+send-requires : tie.Need-send-requires
+send-requires c κs = search needs
+
+same-length : tie.Need-same-length
+same-length c = search needs
+
+returns : tie.Need-returns
+returns c = λ r T.
+    let f = c .before .before in
+    let m = f .before .before .before in
+    sent-weighed r _ _ T (m .weighed .given .0 .0) (sym (m .weighed .given .1) ∙ m .before .before .weigh .ensures) (f .refuse .ensures)
+
+same-length-2 : tie.Need-same-length-2
+same-length-2 c = search needs
+
+returns-2 : tie.Need-returns-2
+returns-2 c = λ r T.
+    let f = c .before .before in
+    let j = f .before .before in
+    let l = j .before in
+    let m = l .before .before in
+    sent-loaded r _ _ T _ _ (sym (m .weighed2 .given .1) ∙ m .before .before .weigh .ensures) (l .loaded .result) (l .loaded .ensures) (j .judge .result) (j .judge .ensures) (f .send .ensures)
+
+pub judge-reading-spec : {M : Type 1} → statement M
+judge-reading-spec =
+    tie.close
+    (tie.spec
+    weigh-requires
+    enum-known-weighed
+    refuse-requires
+    enum-known-weighed-2
+    loaded-requires
+    judge-requires
+    send-requires
+    same-length
+    returns
+    same-length-2
+    returns-2)

@@ -1,0 +1,77 @@
+-- `next_place` meets its contract: the text lies within the buffer.
+use mathlib.Core.Path.{sym}
+use lib.Seq.{length-take-le}
+use borrow.Author.Needs.{needs}
+use Rattle.places.proofs.next_place.Statement.{statement}
+use Rattle.places.proofs.next_place.Tie as tie
+
+next-text-requires : tie.Need-next-text-requires
+next-text-requires c κs = search needs
+
+enum-known-t : tie.Need-enum-known-t
+enum-known-t c = search needs
+
+slice-reshare-prefix-place-of : tie.Need-slice-reshare-prefix-place-of
+slice-reshare-prefix-place-of c = rw (c .before .t .given .1) at (c .before .before .before .before .before .next-text .ensures)
+
+slice-aggregate-place-of : tie.Need-slice-aggregate-place-of
+slice-aggregate-place-of c =
+    let k = c .before in
+    sym (length-take-le _ _ (rw (k .before .t .given .1) at (k .before .before .before .before .before .next-text .ensures)))
+
+place-of-requires : tie.Need-place-of-requires
+place-of-requires c κs = search needs
+
+print-place-requires : tie.Need-print-place-requires
+print-place-requires c κs = search needs
+
+enum-told : tie.Need-enum-told
+enum-told c = search needs
+
+enum-told-2 : tie.Need-enum-told-2
+enum-told-2 c = search needs
+
+slice-aggregate-write-all : tie.Need-slice-aggregate-write-all
+slice-aggregate-write-all c = search needs
+
+write-all-requires : tie.Need-write-all-requires
+write-all-requires c κs = search needs
+
+same-length : tie.Need-same-length
+same-length c = search needs
+
+returns : tie.Need-returns
+returns c = search needs
+
+same-length-2 : tie.Need-same-length-2
+same-length-2 c = search needs
+
+returns-2 : tie.Need-returns-2
+returns-2 c = search needs
+
+same-length-3 : tie.Need-same-length-3
+same-length-3 c = search needs
+
+returns-3 : tie.Need-returns-3
+returns-3 c = search needs
+
+pub next-place-spec : {M : Type 1} → statement M
+next-place-spec =
+    tie.close
+    (tie.spec
+    next-text-requires
+    enum-known-t
+    slice-reshare-prefix-place-of
+    slice-aggregate-place-of
+    place-of-requires
+    print-place-requires
+    enum-told
+    enum-told-2
+    slice-aggregate-write-all
+    write-all-requires
+    same-length
+    returns
+    same-length-2
+    returns-2
+    same-length-3
+    returns-3)

@@ -1,0 +1,210 @@
+// A whole text: line after line into one buffer, and each frame as it comes. Every character is looked at once.
+ghost use mathlib.Core.Path.{_≡_};
+ghost use mathlib.Core.List.{[]};
+ghost use Prim.Native.Nat.{_≤_, _<_};
+ghost use Rattle.rules.specs.Walk.{read};
+ghost use Rattle.rules.specs.Layout.{mostRows};
+ghost use Rattle.book.specs.Book.{tableOf};
+ghost use Rattle.reading.specs.Told.{told, refusedRead};
+ghost use Rattle.reading.specs.Moved.{rowless, afterShip, afterFound, afterWhole, moved, withRow, finished};
+
+// 'At most 12,000 characters', so no line has more than 6,000 bytes.
+const MOST_CHARACTERS: usize = 12_000;
+
+// What a text says of the ship and of its condition.
+pub struct Read {
+    pub ship: book::Ship,
+    pub weather: book::Weather,
+    pub sums: book::Sums,
+}
+
+// How far a text has been read.
+pub enum State {
+    // The ship's frame is awaited.
+    Awaited,
+    // The ship is read, and rows, of which the last has this W.
+    Rows { ship: book::Ship, last: u64 },
+    // The condition is read.
+    Whole(Read),
+    // The first fault is met. What follows can only be no line.
+    Refused(book::Refusal),
+}
+
+// A frame moves the state on, and may add a row; the row is blank where it adds none.
+pub struct Moved {
+    pub state: State,
+    pub adds: bool,
+    pub row: book::Row,
+}
+
+pub enum Answer {
+    Whole(Read),
+    Refused(book::Refusal),
+}
+
+// What was read, and the table beside it, which is blank on a refusal.
+pub struct TextRead {
+    pub answer: Answer,
+    pub table: book::Table,
+}
+
+fn blank_table() -> book::Table
+    ensures { λ r. ⌜ r ≡ tableOf [] ⌝ }
+{
+    book::Table {
+        rows: [blocks::blank_row(); 40],
+        count: 0,
+    }
+}
+
+fn with_row(table: book::Table, row: book::Row) -> book::Table
+    requires { ⌜ table .count < mostRows ⌝ }
+    ensures { λ r. ⌜ r ≡ withRow table row ⌝ }
+{
+    let mut t = table;
+    let k = t.count;
+    t.rows[k] = row;
+    t.count = k + 1;
+    t
+}
+
+fn refused(r: book::Refusal) -> TextRead
+    ensures { λ t. ⌜ t ≡ refusedRead r ⌝ }
+{
+    TextRead {
+        answer: Answer::Refused(r),
+        table: blank_table(),
+    }
+}
+
+// ---- how a frame moves the state
+fn rowless(state: State) -> Moved
+    ensures { λ r. ⌜ r ≡ rowless state ⌝ }
+{
+    Moved {
+        state,
+        adds: false,
+        row: blocks::blank_row(),
+    }
+}
+
+fn after_ship(read: blocks::ShipRead) -> State
+    ensures { λ r. ⌜ r ≡ afterShip read ⌝ }
+{
+    match read {
+        blocks::ShipRead::Within(ship) => State::Rows { ship, last: 0 },
+        blocks::ShipRead::Refused(r) => State::Refused(r),
+    }
+}
+
+fn after_found(ship: book::Ship, row: book::Row, found: frames::Found) -> Moved
+    ensures { λ r. ⌜ r ≡ afterFound ship row found ⌝ }
+{
+    match found {
+        frames::Found::Row => Moved {
+            state: State::Rows {
+                ship,
+                last: row.mass,
+            },
+            adds: true,
+            row,
+        },
+        frames::Found::Condition(c) => {
+            let weather = c.weather;
+            let sums = c.sums;
+            Moved {
+                state: State::Whole(Read {
+                    ship,
+                    weather,
+                    sums,
+                }),
+                adds: false,
+                row,
+            }
+        }
+        frames::Found::Refused(r) => Moved {
+            state: State::Refused(r),
+            adds: false,
+            row,
+        },
+    }
+}
+
+// 4: 'a frame after A3', behind its own 2.
+fn after_whole(line: usize, begun: blocks::Begun) -> State
+    ensures { λ r. ⌜ r ≡ afterWhole line begun ⌝ }
+{
+    match begun {
+        blocks::Begun::Short => State::Refused(blocks::refusal(2, line, 0)),
+        blocks::Begun::Block { tag: _, len: _ } => State::Refused(blocks::refusal(4, line, 0)),
+    }
+}
+
+// A frame in this line, with so many rows before it.
+fn moves(state: State, frame: &[u8], line: usize, rows: usize) -> Moved
+    ensures { λ r. ⌜ r ≡ moved state rows line (now (frame .entry)) ⌝ }
+{
+    match state {
+        State::Awaited => rowless(after_ship(blocks::ship_frame(frame, line))),
+        State::Rows { ship, last } => {
+            let f = frames::frame_at(frame, line, rows, last);
+            let row = f.row;
+            let found = f.found;
+            after_found(ship, row, found)
+        }
+        State::Whole(_) => rowless(after_whole(line, blocks::header(frame))),
+        State::Refused(_) => rowless(state),
+    }
+}
+
+// What it comes to where the text ends, before this line.
+fn finish(state: State, table: book::Table, line: usize) -> TextRead
+    requires { ⌜ 1 ≤ line ⌝ }
+    ensures { λ r. ⌜ r ≡ finished state table line ⌝ }
+{
+    match state {
+        State::Awaited => refused(blocks::refusal(5, line - 1, 0)),
+        State::Rows { ship: _, last: _ } => refused(blocks::refusal(5, line - 1, 0)),
+        State::Whole(read) => TextRead {
+            answer: Answer::Whole(read),
+            table,
+        },
+        State::Refused(r) => refused(r),
+    }
+}
+
+// A text: what it says, or the refusal. 1 goes before every refusal of a block, so that lines are read to the end.
+pub fn read_text(text: &[u8]) -> TextRead
+    ensures { λ r. ⌜ r ≡ told (read (now (text .entry))) ⌝ }
+{
+    if MOST_CHARACTERS < text.len() {
+        return refused(blocks::refusal(1, 0, 0));
+    }
+    let mut bytes = [0u8; 6000];
+    let mut rest = text;
+    let mut line: usize = 1;
+    let mut state = State::Awaited;
+    let mut table = blank_table();
+    loop {
+        let l = text::line_at(rest, &mut bytes);
+        match l {
+            text::LineRead::End => {
+                return finish(state, table, line);
+            }
+            text::LineRead::Not => {
+                return refused(blocks::refusal(1, line, 0));
+            }
+            text::LineRead::Line(n) => {
+                let rows = table.count;
+                let m = moves(state, &bytes[..n], line, rows);
+                rest = &rest[2 * n + 1..];
+                line = line + 1;
+                state = m.state;
+                if m.adds {
+                    let row = m.row;
+                    table = with_row(table, row);
+                }
+            }
+        }
+    }
+}
