@@ -181,7 +181,7 @@ fn starts_below(document: &Document) -> Option<bool> {
     let phi1 = angle(&document.ship, weather.block_coefficient, &laden)?;
     let wind = Wind::on(document, &laden, &curve);
     let start = wind.phi0? - phi1;
-    Some(start < 0 && start >= -600 && curve.y(start) > wind.gust_lever * Y_PER_MILLIMETRE)
+    Some((-600..0).contains(&start) && curve.y(start) > wind.gust_lever * Y_PER_MILLIMETRE)
 }
 
 /// A curve with a first hump that stays just below lw2.

@@ -20,7 +20,7 @@ pub enum Weather {
     NotJudged,
     /// phi0 or u is none.
     NoAngle,
-    Judged(Gust),
+    Judged(Box<Gust>),
 }
 
 /// What decides criterion 8, each held between two fractions.
@@ -67,7 +67,7 @@ fn weather(document: &Document, hull: &Hull, levers: &Levers, kept: Kept) -> Wea
         None => Weather::NotJudged,
         Some(phi1) => match gust(document, hull, levers, kept, phi1) {
             None => Weather::NoAngle,
-            Some(gust) => Weather::Judged(gust),
+            Some(gust) => Weather::Judged(Box::new(gust)),
         },
     }
 }
