@@ -88,7 +88,7 @@ fn whole_values_make_no_difference() {
     }
 }
 
-/// The text of issue 7, which passes all eight.
+/// The text that passes all eight by the start on the tenth.
 const ISSUE_7: &str = "\
 A1000D0001D4C0000075300000000000
 A2002201C9C3802EE043F80000041F0984124B173D1C98218726422ABB2EB1320A350737FB
@@ -97,7 +97,7 @@ A30018C1000C000222E02328025801C2012CC2000601C9C3803E80
 ";
 
 #[test]
-fn the_text_of_issue_7() {
+fn the_text_that_sags() {
     let document = read(ISSUE_7);
     let used = judge_document(&document).expect("it is judged");
     assert_eq!((used.verdicts, used.figures[10]), ([1; 8], 23_824_000));
