@@ -76,11 +76,11 @@ fn entries(s: &[u8], line: usize, at: usize, depth: u64, t: book::Sums) -> LoadR
     let body = &s[3..end];
     let rest = &s[end..];
     let body_at = at + 3;
-    let b = blocks::block_at(tag, body, line, at, depth, MOST_ENTRIES - t.count);
+    let b = blocks::entries::block_at(tag, body, line, at, depth, MOST_ENTRIES - t.count);
     match b {
-        blocks::Block::Refused(r) => LoadRead::Refused(r),
-        blocks::Block::Entry(e) => entries(rest, line, body_at + len, depth, add(t, e)),
-        blocks::Block::Group => {
+        blocks::entries::Block::Refused(r) => LoadRead::Refused(r),
+        blocks::entries::Block::Entry(e) => entries(rest, line, body_at + len, depth, add(t, e)),
+        blocks::entries::Block::Group => {
             let inner = entries(body, line, body_at, depth - 1, t);
             let LoadRead::Sum(u) = inner else {
                 return inner;
@@ -128,10 +128,10 @@ fn inside(body: &[u8], line: usize) -> ConditionRead
     let blocks::Begun::Block { tag, len } = blocks::header(body) else {
         return ConditionRead::Refused(blocks::refusal(2, line, 3));
     };
-    let w = blocks::weather_at(tag, &body[3..3 + len], line);
+    let w = blocks::weather::weather_at(tag, &body[3..3 + len], line);
     match w {
-        blocks::WeatherRead::Refused(r) => ConditionRead::Refused(r),
-        blocks::WeatherRead::Within(weather) => {
+        blocks::weather::WeatherRead::Refused(r) => ConditionRead::Refused(r),
+        blocks::weather::WeatherRead::Within(weather) => {
             loaded(weather, load_at(&body[3 + len..], line, 6 + len))
         }
     }
@@ -157,16 +157,16 @@ fn no_frame(number: u8, line: usize) -> FrameRead
 {
     FrameRead {
         found: Found::Refused(blocks::refusal(number, line, 0)),
-        row: blocks::blank_row(),
+        row: blocks::row::blank_row(),
     }
 }
 
-fn row_found(answer: blocks::RowAnswer) -> Found
+fn row_found(answer: blocks::row::RowAnswer) -> Found
     ensures { λ r. ⌜ r ≡ rowFound answer ⌝ }
 {
     match answer {
-        blocks::RowAnswer::Within => Found::Row,
-        blocks::RowAnswer::Refused(r) => Found::Refused(r),
+        blocks::row::RowAnswer::Within => Found::Row,
+        blocks::row::RowAnswer::Refused(r) => Found::Refused(r),
     }
 }
 
@@ -190,7 +190,7 @@ pub fn frame_at(s: &[u8], line: usize, rows: usize, last: u64) -> FrameRead
         if MOST_ROWS <= rows {
             return no_frame(4, line);
         }
-        let read = blocks::row_in(s, len, line, last);
+        let read = blocks::row::row_in(s, len, line, last);
         let answer = read.answer;
         let row = read.row;
         return FrameRead {
@@ -204,7 +204,7 @@ pub fn frame_at(s: &[u8], line: usize, rows: usize, last: u64) -> FrameRead
         }
         return FrameRead {
             found: condition_found(condition_in(s, len, line)),
-            row: blocks::blank_row(),
+            row: blocks::row::blank_row(),
         };
     }
     no_frame(4, line)

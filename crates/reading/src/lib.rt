@@ -52,7 +52,7 @@ fn blank_table() -> book::Table
     ensures { λ r. ⌜ r ≡ tableOf [] ⌝ }
 {
     book::Table {
-        rows: [blocks::blank_row(); 40],
+        rows: [blocks::row::blank_row(); 40],
         count: 0,
     }
 }
@@ -84,16 +84,16 @@ fn rowless(state: State) -> Moved
     Moved {
         state,
         adds: false,
-        row: blocks::blank_row(),
+        row: blocks::row::blank_row(),
     }
 }
 
-fn after_ship(read: blocks::ShipRead) -> State
+fn after_ship(read: blocks::ship::ShipRead) -> State
     ensures { λ r. ⌜ r ≡ afterShip read ⌝ }
 {
     match read {
-        blocks::ShipRead::Within(ship) => State::Rows { ship, last: 0 },
-        blocks::ShipRead::Refused(r) => State::Refused(r),
+        blocks::ship::ShipRead::Within(ship) => State::Rows { ship, last: 0 },
+        blocks::ship::ShipRead::Refused(r) => State::Refused(r),
     }
 }
 
@@ -145,7 +145,7 @@ fn moves(state: State, frame: &[u8], line: usize, rows: usize) -> Moved
     ensures { λ r. ⌜ r ≡ moved state rows line (now (frame .entry)) ⌝ }
 {
     match state {
-        State::Awaited => rowless(after_ship(blocks::ship_frame(frame, line))),
+        State::Awaited => rowless(after_ship(blocks::ship::ship_frame(frame, line))),
         State::Rows { ship, last } => {
             let f = frames::frame_at(frame, line, rows, last);
             let row = f.row;
