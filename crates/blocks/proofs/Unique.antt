@@ -1,12 +1,12 @@
 -- Any two results that the contract of a public function admits are the same.
 use mathlib.Core.Path.{_≡_, sym, _∙_}
 use Rattle.blocks.proofs.refusal.Reads as refusal
-use Rattle.blocks.proofs.blank_row.Reads as blank-row
+use Rattle.blocks.proofs.row.blank_row.Reads as blank-row
 use Rattle.blocks.proofs.header.Reads as header
-use Rattle.blocks.proofs.block_at.Reads as block-at
-use Rattle.blocks.proofs.weather_at.Reads as weather-at
-use Rattle.blocks.proofs.ship_frame.Reads as ship-frame
-use Rattle.blocks.proofs.row_in.Reads as row-in
+use Rattle.blocks.proofs.entries.block_at.Reads as block-at
+use Rattle.blocks.proofs.weather.weather_at.Reads as weather-at
+use Rattle.blocks.proofs.ship.ship_frame.Reads as ship-frame
+use Rattle.blocks.proofs.row.row_in.Reads as row-in
 
 pub refusal-one : (κs a r r′ s s′ : _) → refusal.Post κs a r s → refusal.Post κs a r′ s′ → r ≡ r′
 refusal-one κs a r r′ s s′ p q = p ∙ sym q

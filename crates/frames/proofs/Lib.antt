@@ -1,4 +1,6 @@
 pub mod Adding
 pub mod Bounds
-pub mod Answers
+pub mod Blocks
+pub mod Load
+pub mod Frame
 pub mod Unique
