@@ -1,1 +1,3 @@
 pub mod Joined
+pub mod Promised
+pub mod Promises
