@@ -3,4 +3,4 @@ pub mod Limits
 pub mod Values
 pub mod Entries
 pub mod Stations
-pub mod Unique
+pub mod OneAnswer

@@ -1,4 +1,4 @@
 pub mod Adding
 pub mod Bounds
 pub mod Answers
-pub mod Unique
+pub mod OneAnswer
