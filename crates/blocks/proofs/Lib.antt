@@ -3,4 +3,4 @@ pub mod Limits
 pub mod Values
 pub mod Leaves
 pub mod Stations
-pub mod Unique
+pub mod OneAnswer

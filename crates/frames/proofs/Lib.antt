@@ -4,3 +4,5 @@ pub mod Blocks
 pub mod Load
 pub mod Frame
 pub mod Unique
+pub mod Answers
+pub mod OneAnswer
