@@ -20,7 +20,7 @@ pub const GREATEST_LEVER: i128 = 1_000_000_000;
 pub const ANGLE_OF_GREATEST: i128 = 250;
 pub const LEAST_GM: i128 = 150;
 pub const STEADY_HEEL: i128 = 160;
-const WEATHER_END: i128 = 500;
+pub const WEATHER_END: i128 = 500;
 
 #[derive(Clone, Debug, PartialEq)]
 pub struct Judgement {
@@ -31,9 +31,12 @@ pub struct Judgement {
 
 /// From the text to the judgement, or the first fault met.
 pub fn judge(text: &[u8]) -> Result<Judgement, Refusal> {
-    let document = document(&lines(text)?)?;
-    let laden = laden(&document)?;
-    Ok(judgement(&document, &laden))
+    judge_document(&document(&lines(text)?)?)
+}
+
+/// The judgement of a document, or refusal 7 or 8.
+pub fn judge_document(document: &Document) -> Result<Judgement, Refusal> {
+    Ok(judgement(document, &laden(document)?))
 }
 
 fn verdict(holds: bool) -> u8 {

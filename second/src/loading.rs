@@ -24,7 +24,7 @@ impl Laden {
 }
 
 /// The mass of entries and their moment about the keel, free surfaces in it.
-fn sums(entries: &[Entry]) -> (i128, i128) {
+pub fn sums(entries: &[Entry]) -> (i128, i128) {
     entries.iter().fold((0, 0), |(mass, moment), entry| {
         let (more_mass, more_moment) = match entry {
             Entry::Item(weight) => (weight.mass, weight.mass * weight.centre),
@@ -73,7 +73,7 @@ pub fn laden(document: &Document) -> Result<Laden, Refusal> {
 }
 
 /// The neighbouring rows with the displacement between them, ends included.
-fn rows_around(rows: &[Row], displacement: i128) -> Option<(&Row, &Row)> {
+pub fn rows_around(rows: &[Row], displacement: i128) -> Option<(&Row, &Row)> {
     rows.windows(2).find_map(|pair| match pair {
         [lower, upper]
             if lower.displacement <= displacement && displacement <= upper.displacement =>

@@ -6,6 +6,7 @@ mod book;
 mod corpus;
 mod criteria;
 mod curve;
+mod exact;
 mod layout;
 mod line;
 mod loading;
@@ -26,8 +27,9 @@ use corpus::Corpus;
 use criteria::{judge, Judgement};
 use refusal::Refusal;
 
-const USAGE: &str = "usage: second judge | answers | places | cases [--small] \
-                     | corpus --seed S --count N [--small]";
+const USAGE: &str = "usage: second judge | exact | answers | places | cases [--small] \
+                     | corpus --seed S --count N [--small] \
+                     | roundings --seed S --count N";
 
 type Answer = Result<Judgement, Refusal>;
 
@@ -36,6 +38,7 @@ fn main() -> ExitCode {
     let words: Vec<&str> = arguments.iter().map(String::as_str).collect();
     let done = match words.as_slice() {
         ["judge"] => judge_one(),
+        ["exact"] => show_one(),
         ["answers"] => answer_all(report::report),
         ["places"] => answer_all(report::place),
         ["cases"] => write_names(&Corpus::new(0, false)),
@@ -43,6 +46,10 @@ fn main() -> ExitCode {
         ["corpus", options @ ..] => match corpus_asked(options) {
             Some((corpus, count)) => write_corpus(&corpus, count),
             None => return usage(),
+        },
+        ["roundings", "--seed", seed, "--count", count] => match (seed.parse(), count.parse()) {
+            (Ok(seed), Ok(count)) => write_roundings(seed, count),
+            _ => return usage(),
         },
         _ => return usage(),
     };
@@ -61,13 +68,22 @@ fn usage() -> ExitCode {
     ExitCode::from(2)
 }
 
-fn judge_one() -> io::Result<()> {
+fn read_one() -> io::Result<Vec<u8>> {
     let mut text = Vec::new();
     let enough = text::MOST_CHARACTERS as u64 + 1;
     io::stdin().lock().take(enough).read_to_end(&mut text)?;
-    io::stdout()
-        .lock()
-        .write_all(report::report(&judge(&text)).as_bytes())
+    Ok(text)
+}
+
+fn judge_one() -> io::Result<()> {
+    let written = report::report(&judge(&read_one()?));
+    io::stdout().lock().write_all(written.as_bytes())
+}
+
+fn show_one() -> io::Result<()> {
+    let written = exact::table(&read_one()?)
+        .unwrap_or_else(|refusal| format!("refused with {}\n", refusal.number));
+    io::stdout().lock().write_all(written.as_bytes())
 }
 
 fn answer_all(written: fn(&Answer) -> String) -> io::Result<()> {
@@ -93,6 +109,12 @@ fn write_corpus(corpus: &Corpus, count: u64) -> io::Result<()> {
     for number in 0..count {
         stream::write_text(&mut output, &corpus.text(number))?;
     }
+    output.flush()
+}
+
+fn write_roundings(seed: u64, count: u64) -> io::Result<()> {
+    let mut output = BufWriter::new(io::stdout().lock());
+    exact::Search::run(seed, count).print(&mut output)?;
     output.flush()
 }
 

@@ -50,8 +50,8 @@ pub const S: [Point; 8] = [
     (2_000, 350),
 ];
 
-const K_OF_SHARP_BILGE: i128 = 700;
-const LONGEST_PERIOD: i128 = 2_000;
+pub const K_OF_SHARP_BILGE: i128 = 700;
+pub const LONGEST_PERIOD: i128 = 2_000;
 
 /// b, breadth over draught in thousandths.
 pub fn fullness(ship: &Ship, draught: i128) -> i128 {

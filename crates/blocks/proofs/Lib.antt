@@ -1,6 +1,6 @@
 pub mod Heads
 pub mod Limits
 pub mod Values
-pub mod Entries
+pub mod Leaves
 pub mod Stations
-pub mod Unique
+pub mod OneAnswer

@@ -14,20 +14,20 @@ use Rattle.book.specs.declared.Sums.{Sums}
 use Rattle.book.specs.declared.Refusal.{Refusal}
 use Rattle.blocks.specs.declared.Begun.{Begun}
 use Rattle.blocks.specs.declared.Begun.the-variants as begun
-use Rattle.blocks.specs.declared.Kind.{Kind}
-use Rattle.blocks.specs.declared.Kind.the-variants as kind
-use Rattle.blocks.specs.declared.Item.{Item}
-use Rattle.blocks.specs.declared.Tank.{Tank}
-use Rattle.blocks.specs.declared.Held.{Held}
-use Rattle.blocks.specs.declared.Held.the-variants as held
-use Rattle.blocks.specs.declared.Block.{Block}
-use Rattle.blocks.specs.declared.Block.the-variants as block
-use Rattle.blocks.specs.declared.WeatherRead.{WeatherRead}
-use Rattle.blocks.specs.declared.WeatherRead.the-variants as weather
-use Rattle.blocks.specs.declared.ShipRead.{ShipRead}
-use Rattle.blocks.specs.declared.ShipRead.the-variants as ship
-use Rattle.blocks.specs.declared.RowAnswer.the-variants as row
-use Rattle.blocks.specs.declared.RowRead.{RowRead}
+use Rattle.blocks.specs.declared.entries.Kind.{Kind}
+use Rattle.blocks.specs.declared.entries.Kind.the-variants as kind
+use Rattle.blocks.specs.declared.entries.Item.{Item}
+use Rattle.blocks.specs.declared.entries.Tank.{Tank}
+use Rattle.blocks.specs.declared.entries.Held.{Held}
+use Rattle.blocks.specs.declared.entries.Held.the-variants as held
+use Rattle.blocks.specs.declared.entries.Block.{Block}
+use Rattle.blocks.specs.declared.entries.Block.the-variants as block
+use Rattle.blocks.specs.declared.weather.WeatherRead.{WeatherRead}
+use Rattle.blocks.specs.declared.weather.WeatherRead.the-variants as weather
+use Rattle.blocks.specs.declared.ship.ShipRead.{ShipRead}
+use Rattle.blocks.specs.declared.ship.ShipRead.the-variants as ship
+use Rattle.blocks.specs.declared.row.RowAnswer.the-variants as row
+use Rattle.blocks.specs.declared.row.RowRead.{RowRead}
 
 abbrev pub refusal : ℕ → ℕ → ℕ → Refusal
 refusal n l o = record { number = n; line = l; offset = o }

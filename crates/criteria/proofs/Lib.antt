@@ -1,2 +1,3 @@
 pub mod Measures
 pub mod Judgement
+pub mod OneAnswer

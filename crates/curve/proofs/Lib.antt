@@ -10,3 +10,4 @@ pub mod Steps
 pub mod Straight
 pub mod Weighing
 pub mod Soundness
+pub mod OneAnswer

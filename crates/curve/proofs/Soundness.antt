@@ -2,7 +2,7 @@
 use mathlib.Core.Path.{_≡_, refl, ap, _∙_}
 use mathlib.Core.Bool.{Bool, true, false, cond, _&&_}
 use mathlib.Core.List.{List, [], _∷_, map}
-use Prim.Native.Nat.{ℕ, _-_, _*_, _≤_}
+use Prim.Native.Nat.{ℕ, _*_, _≤_}
 use native.Mathlib.Omega.{arith}
 use native.Mathlib.Nat.{mul-le-mul, mul-le-mul-left, mul-le-mul-right}
 use lib.Dec.{leb, ltb}
@@ -13,12 +13,12 @@ use Rattle.rules.specs.Answers.{got, test}
 use Rattle.rules.specs.Loading.{Entry, flat, total, mass, moment, freeSurface, nominallyFull, inTable, displacement, correctedKG, greatestKG, entriesOf, weighed}
 use Rattle.rules.specs.Curve.{loadedAt, loaded}
 use Rattle.rules.specs.Blocks as rules
+use Rattle.rules.proofs.Fields.{ok-at}
 use Rattle.rules.proofs.Answers.{test-inv}
 use Rattle.rules.proofs.Sums.{total-append}
 use Rattle.book.specs.Book.{rowOf, rowsOf, plainRow, tableOf, sumsOf}
 use Rattle.curve.specs.Weighing.{Whole, Sound, weighedOf, Weighs}
 use Rattle.curve.proofs.Weighing.{weighs}
-use Rattle.curve.proofs.Limits.{ok-at}
 
 -- ---- the table
 module _ (rows : List rules.Row) where

@@ -34,7 +34,7 @@ fn lever(kn: u64, kg: u64, i: usize) -> i64
 }
 
 // g at each station.
-pub fn levers(kn: [u64; 13], kg: u64) -> [i64; 13]
+fn levers(kn: [u64; 13], kg: u64) -> [i64; 13]
     requires { ⌜ Sized kn kg ⌝ }
     ensures { λ r. ⌜ r ≡ leversOf kn kg ⌝ }
 {
@@ -58,7 +58,7 @@ fn fifty(a: i64, b: i64, m: u64) -> i64
 }
 
 // y at each tenth: at the last one the last station's, before it between two stations.
-pub fn tenths(g: [i64; 13]) -> [i64; 601]
+fn tenths(g: [i64; 13]) -> [i64; 601]
     requires { ⌜ Within mostG g ⌝ }
     ensures { λ r. ⌜ Holds (straight g) r ⌝ }
 {

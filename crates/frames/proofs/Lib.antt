@@ -1,4 +1,8 @@
 pub mod Adding
 pub mod Bounds
-pub mod Answers
+pub mod Blocks
+pub mod Load
+pub mod Frame
 pub mod Unique
+pub mod Answers
+pub mod OneAnswer

@@ -7,8 +7,8 @@ use Rattle.book.specs.Book.{sumsOf, plainRow, blankRow}
 use Rattle.book.specs.declared.Sums.{Sums}
 use Rattle.book.specs.declared.Weather.{Weather}
 use Rattle.blocks.specs.Told.{refusal, plainWeather}
-use Rattle.blocks.specs.declared.RowAnswer.{RowAnswer}
-use Rattle.blocks.specs.declared.RowAnswer.the-variants as row
+use Rattle.blocks.specs.declared.row.RowAnswer.{RowAnswer}
+use Rattle.blocks.specs.declared.row.RowAnswer.the-variants as row
 use Rattle.frames.specs.Sums.{plus}
 use Rattle.frames.specs.declared.LoadRead.{LoadRead}
 use Rattle.frames.specs.declared.LoadRead.the-variants as load

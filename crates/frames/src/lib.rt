@@ -8,6 +8,11 @@ ghost use Rattle.rules.specs.Walk.{entries, loadAt, inside, conditionIn, frameA
 ghost use Rattle.rules.specs.Parts.{headAt};
 ghost use Rattle.frames.specs.Sums.{none, plus, Bounded};
 ghost use Rattle.frames.specs.Told.{loadRead, conditionRead, loaded, frameRead, rowFound, conditionFound};
+use blocks::Begun;
+use blocks::entries::Block;
+use blocks::refusal;
+use blocks::row::RowAnswer;
+use blocks::weather::WeatherRead;
 
 // 'At most 200 items and tanks', 'at most 4 groups deep', 'at most 4,096 bytes', '2 to 40 A2'.
 const MOST_ENTRIES: u64 = 200;
@@ -69,18 +74,18 @@ fn entries(s: &[u8], line: usize, at: usize, depth: u64, t: book::Sums) -> LoadR
     if s.len() == 0 {
         return LoadRead::Sum(t);
     }
-    let blocks::Begun::Block { tag, len } = blocks::header(s) else {
-        return LoadRead::Refused(blocks::refusal(2, line, at));
+    let Begun::Block { tag, len } = blocks::header(s) else {
+        return LoadRead::Refused(refusal(2, line, at));
     };
     let end = 3 + len;
     let body = &s[3..end];
     let rest = &s[end..];
     let body_at = at + 3;
-    let b = blocks::block_at(tag, body, line, at, depth, MOST_ENTRIES - t.count);
+    let b = blocks::entries::block_at(tag, body, line, at, depth, MOST_ENTRIES - t.count);
     match b {
-        blocks::Block::Refused(r) => LoadRead::Refused(r),
-        blocks::Block::Entry(e) => entries(rest, line, body_at + len, depth, add(t, e)),
-        blocks::Block::Group => {
+        Block::Refused(r) => LoadRead::Refused(r),
+        Block::Entry(e) => entries(rest, line, body_at + len, depth, add(t, e)),
+        Block::Group => {
             let inner = entries(body, line, body_at, depth - 1, t);
             let LoadRead::Sum(u) = inner else {
                 return inner;
@@ -97,7 +102,7 @@ fn load_at(s: &[u8], line: usize, at: usize) -> LoadRead
     ensures { λ r. ⌜ r ≡ loadRead none (loadAt line at (now (s .entry))) ⌝ }
 {
     if s.len() == 0 {
-        return LoadRead::Refused(blocks::refusal(5, line, 0));
+        return LoadRead::Refused(refusal(5, line, 0));
     }
     let nothing = book::Sums {
         count: 0,
@@ -123,15 +128,15 @@ fn inside(body: &[u8], line: usize) -> ConditionRead
     ensures { λ r. ⌜ r ≡ conditionRead (inside line (now (body .entry))) ⌝ }
 {
     if body.len() == 0 {
-        return ConditionRead::Refused(blocks::refusal(5, line, 0));
+        return ConditionRead::Refused(refusal(5, line, 0));
     }
-    let blocks::Begun::Block { tag, len } = blocks::header(body) else {
-        return ConditionRead::Refused(blocks::refusal(2, line, 3));
+    let Begun::Block { tag, len } = blocks::header(body) else {
+        return ConditionRead::Refused(refusal(2, line, 3));
     };
-    let w = blocks::weather_at(tag, &body[3..3 + len], line);
+    let w = blocks::weather::weather_at(tag, &body[3..3 + len], line);
     match w {
-        blocks::WeatherRead::Refused(r) => ConditionRead::Refused(r),
-        blocks::WeatherRead::Within(weather) => {
+        WeatherRead::Refused(r) => ConditionRead::Refused(r),
+        WeatherRead::Within(weather) => {
             loaded(weather, load_at(&body[3 + len..], line, 6 + len))
         }
     }
@@ -143,10 +148,10 @@ fn condition_in(s: &[u8], len: usize, line: usize) -> ConditionRead
     ensures { λ r. ⌜ r ≡ conditionRead (conditionIn line (headAt 0xA3 len (now (s .entry)))) ⌝ }
 {
     if s.len() != 3 + len {
-        return ConditionRead::Refused(blocks::refusal(3, line, 0));
+        return ConditionRead::Refused(refusal(3, line, 0));
     }
     if MOST_BYTES < len {
-        return ConditionRead::Refused(blocks::refusal(5, line, 0));
+        return ConditionRead::Refused(refusal(5, line, 0));
     }
     inside(&s[3..3 + len], line)
 }
@@ -156,17 +161,17 @@ fn no_frame(number: u8, line: usize) -> FrameRead
     ensures { λ r. ⌜ r ≡ frameRead (refused number line 0) ⌝ }
 {
     FrameRead {
-        found: Found::Refused(blocks::refusal(number, line, 0)),
-        row: blocks::blank_row(),
+        found: Found::Refused(refusal(number, line, 0)),
+        row: blocks::row::blank_row(),
     }
 }
 
-fn row_found(answer: blocks::RowAnswer) -> Found
+fn row_found(answer: RowAnswer) -> Found
     ensures { λ r. ⌜ r ≡ rowFound answer ⌝ }
 {
     match answer {
-        blocks::RowAnswer::Within => Found::Row,
-        blocks::RowAnswer::Refused(r) => Found::Refused(r),
+        RowAnswer::Within => Found::Row,
+        RowAnswer::Refused(r) => Found::Refused(r),
     }
 }
 
@@ -183,14 +188,14 @@ fn condition_found(read: ConditionRead) -> Found
 pub fn frame_at(s: &[u8], line: usize, rows: usize, last: u64) -> FrameRead
     ensures { λ r. ⌜ r ≡ frameRead (frameAt line rows last (now (s .entry))) ⌝ }
 {
-    let blocks::Begun::Block { tag, len } = blocks::header(s) else {
+    let Begun::Block { tag, len } = blocks::header(s) else {
         return no_frame(2, line);
     };
     if tag == 0xA2 {
         if MOST_ROWS <= rows {
             return no_frame(4, line);
         }
-        let read = blocks::row_in(s, len, line, last);
+        let read = blocks::row::row_in(s, len, line, last);
         let answer = read.answer;
         let row = read.row;
         return FrameRead {
@@ -204,7 +209,7 @@ pub fn frame_at(s: &[u8], line: usize, rows: usize, last: u64) -> FrameRead
         }
         return FrameRead {
             found: condition_found(condition_in(s, len, line)),
-            row: blocks::blank_row(),
+            row: blocks::row::blank_row(),
         };
     }
     no_frame(4, line)

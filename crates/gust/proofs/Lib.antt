@@ -2,3 +2,4 @@ pub mod Machine
 pub mod Limits
 pub mod Ways
 pub mod Angles
+pub mod OneAnswer

@@ -1,1 +1,4 @@
 pub mod Joined
+pub mod Promised
+pub mod Promises
+pub mod OneAnswer

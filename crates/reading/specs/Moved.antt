@@ -11,8 +11,8 @@ use Rattle.book.specs.declared.Table.{Table}
 use Rattle.blocks.specs.Told.{refusal, begunOf, shipRead}
 use Rattle.blocks.specs.declared.Begun.{Begun}
 use Rattle.blocks.specs.declared.Begun.the-variants as begun
-use Rattle.blocks.specs.declared.ShipRead.{ShipRead}
-use Rattle.blocks.specs.declared.ShipRead.the-variants as ship
+use Rattle.blocks.specs.declared.ship.ShipRead.{ShipRead}
+use Rattle.blocks.specs.declared.ship.ShipRead.the-variants as ship
 use Rattle.frames.specs.Told.{frameRead}
 use Rattle.frames.specs.declared.Found.{Found}
 use Rattle.frames.specs.declared.Found.the-variants as found

@@ -7,6 +7,11 @@ ghost use Rattle.rules.specs.Layout.{mostRows};
 ghost use Rattle.book.specs.Book.{tableOf};
 ghost use Rattle.reading.specs.Told.{told, refusedRead};
 ghost use Rattle.reading.specs.Moved.{rowless, afterShip, afterFound, afterWhole, moved, withRow, finished};
+use blocks::Begun;
+use blocks::refusal;
+use blocks::ship::ShipRead;
+use frames::Found;
+use text::LineRead;
 
 // 'At most 12,000 characters', so no line has more than 6,000 bytes.
 const MOST_CHARACTERS: usize = 12_000;
@@ -52,7 +57,7 @@ fn blank_table() -> book::Table
     ensures { λ r. ⌜ r ≡ tableOf [] ⌝ }
 {
     book::Table {
-        rows: [blocks::blank_row(); 40],
+        rows: [blocks::row::blank_row(); 40],
         count: 0,
     }
 }
@@ -84,24 +89,24 @@ fn rowless(state: State) -> Moved
     Moved {
         state,
         adds: false,
-        row: blocks::blank_row(),
+        row: blocks::row::blank_row(),
     }
 }
 
-fn after_ship(read: blocks::ShipRead) -> State
+fn after_ship(read: ShipRead) -> State
     ensures { λ r. ⌜ r ≡ afterShip read ⌝ }
 {
     match read {
-        blocks::ShipRead::Within(ship) => State::Rows { ship, last: 0 },
-        blocks::ShipRead::Refused(r) => State::Refused(r),
+        ShipRead::Within(ship) => State::Rows { ship, last: 0 },
+        ShipRead::Refused(r) => State::Refused(r),
     }
 }
 
-fn after_found(ship: book::Ship, row: book::Row, found: frames::Found) -> Moved
+fn after_found(ship: book::Ship, row: book::Row, found: Found) -> Moved
     ensures { λ r. ⌜ r ≡ afterFound ship row found ⌝ }
 {
     match found {
-        frames::Found::Row => Moved {
+        Found::Row => Moved {
             state: State::Rows {
                 ship,
                 last: row.mass,
@@ -109,7 +114,7 @@ fn after_found(ship: book::Ship, row: book::Row, found: frames::Found) -> Moved
             adds: true,
             row,
         },
-        frames::Found::Condition(c) => {
+        Found::Condition(c) => {
             let weather = c.weather;
             let sums = c.sums;
             Moved {
@@ -122,7 +127,7 @@ fn after_found(ship: book::Ship, row: book::Row, found: frames::Found) -> Moved
                 row,
             }
         }
-        frames::Found::Refused(r) => Moved {
+        Found::Refused(r) => Moved {
             state: State::Refused(r),
             adds: false,
             row,
@@ -131,12 +136,12 @@ fn after_found(ship: book::Ship, row: book::Row, found: frames::Found) -> Moved
 }
 
 // 4: 'a frame after A3', behind its own 2.
-fn after_whole(line: usize, begun: blocks::Begun) -> State
+fn after_whole(line: usize, begun: Begun) -> State
     ensures { λ r. ⌜ r ≡ afterWhole line begun ⌝ }
 {
     match begun {
-        blocks::Begun::Short => State::Refused(blocks::refusal(2, line, 0)),
-        blocks::Begun::Block { tag: _, len: _ } => State::Refused(blocks::refusal(4, line, 0)),
+        Begun::Short => State::Refused(refusal(2, line, 0)),
+        Begun::Block { tag: _, len: _ } => State::Refused(refusal(4, line, 0)),
     }
 }
 
@@ -145,7 +150,7 @@ fn moves(state: State, frame: &[u8], line: usize, rows: usize) -> Moved
     ensures { λ r. ⌜ r ≡ moved state rows line (now (frame .entry)) ⌝ }
 {
     match state {
-        State::Awaited => rowless(after_ship(blocks::ship_frame(frame, line))),
+        State::Awaited => rowless(after_ship(blocks::ship::ship_frame(frame, line))),
         State::Rows { ship, last } => {
             let f = frames::frame_at(frame, line, rows, last);
             let row = f.row;
@@ -163,8 +168,8 @@ fn finish(state: State, table: book::Table, line: usize) -> TextRead
     ensures { λ r. ⌜ r ≡ finished state table line ⌝ }
 {
     match state {
-        State::Awaited => refused(blocks::refusal(5, line - 1, 0)),
-        State::Rows { ship: _, last: _ } => refused(blocks::refusal(5, line - 1, 0)),
+        State::Awaited => refused(refusal(5, line - 1, 0)),
+        State::Rows { ship: _, last: _ } => refused(refusal(5, line - 1, 0)),
         State::Whole(read) => TextRead {
             answer: Answer::Whole(read),
             table,
@@ -178,7 +183,7 @@ pub fn read_text(text: &[u8]) -> TextRead
     ensures { λ r. ⌜ r ≡ told (read (now (text .entry))) ⌝ }
 {
     if MOST_CHARACTERS < text.len() {
-        return refused(blocks::refusal(1, 0, 0));
+        return refused(refusal(1, 0, 0));
     }
     let mut bytes = [0u8; 6000];
     let mut rest = text;
@@ -188,13 +193,13 @@ pub fn read_text(text: &[u8]) -> TextRead
     loop {
         let l = text::line_at(rest, &mut bytes);
         match l {
-            text::LineRead::End => {
+            LineRead::End => {
                 return finish(state, table, line);
             }
-            text::LineRead::Not => {
-                return refused(blocks::refusal(1, line, 0));
+            LineRead::Not => {
+                return refused(refusal(1, line, 0));
             }
-            text::LineRead::Line(n) => {
+            LineRead::Line(n) => {
                 let rows = table.count;
                 let m = moves(state, &bytes[..n], line, rows);
                 rest = &rest[2 * n + 1..];

@@ -5,3 +5,4 @@ pub mod Judged
 pub mod Heights
 pub mod LeastSquare
 pub mod Angles
+pub mod OneAnswer

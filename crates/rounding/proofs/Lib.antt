@@ -1,3 +1,4 @@
 pub mod Quotients
 pub mod Halves
 pub mod TablePoints
+pub mod OneAnswer

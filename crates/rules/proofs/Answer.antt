@@ -3,11 +3,10 @@ use mathlib.Core.Path.{_≡_, refl, ap, _∙_}
 use mathlib.Core.Bool.{Bool, true, false}
 use mathlib.Core.List.{List, _++_, map}
 use Prim.Native.Nat.{ℕ, _≤_, _<_}
-use lib.Dec.{ltb}
 use lib.ListN.{length, drop}
 use borrow.Author.Tests.{lt-ltb, le-ltb}
 use Rattle.rules.specs.Layout.{Reading}
-use Rattle.rules.specs.Answers.{Ans, refused, got, _>>=_, _>>_}
+use Rattle.rules.specs.Answers.{refused, got, _>>=_, _>>_}
 use Rattle.rules.specs.Walk.{read}
 use Rattle.rules.specs.Loading.{weighed}
 use Rattle.rules.specs.Curve.{loaded}

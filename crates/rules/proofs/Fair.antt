@@ -2,36 +2,22 @@
 use mathlib.Core.Path.{_≡_, refl, ap}
 use mathlib.Core.Bool.{Bool, true, false, _&&_}
 use mathlib.Core.List.{List, [], _∷_, map}
-use Prim.Native.Nat.{ℕ, zero, suc, _≤_}
+use Prim.Native.Nat.{ℕ, suc, _≤_}
 use native.Mathlib.Omega.{arith}
 use lib.Dec.{leb}
 use lib.ListN.{getD, length}
 use borrow.Author.Tests.{leb-true, le-leb}
 use Rattle.rules.specs.Numbers.{full}
-use Rattle.rules.specs.Blocks.{Field, field, within, ok, Ship, Row, row, Weather}
+use Rattle.rules.specs.Blocks.{Field, within, ok, Ship, Row, row, Weather}
 use Rattle.rules.specs.Layout.{Reading, Rising, Limits}
 use Rattle.rules.specs.Answers.{got, test}
 use Rattle.rules.specs.Loading.{displacement, correctedKG, entriesOf, firstMass, lastMass, inTable, greatestKG, weighed}
 use Rattle.rules.specs.Curve.{stations, between, knAt, loadedAt, loaded}
 use Rattle.rules.specs.Ranges.{rowAt, Fair}
 use Rattle.rules.proofs.Answers.{test-inv, refused-got}
-use Rattle.rules.proofs.Fields.{both-true}
+use Rattle.rules.proofs.Fields.{both-true, fieldAt, Inside, ok-at}
 use Rattle.rules.proofs.Tables.{valuesWithin}
 use Rattle.rules.proofs.Rows.{column, between-within}
-
-abbrev Inside : Field → ℕ → Type 0
-Inside f x = (f .low ≤ x) × (x ≤ f .high)
-
--- The limits of the value at a place.
-within-at : (fs : List Field) (v : List ℕ) → within fs v ≡ true → (i : ℕ) → Inside (getD fs i (field 0 0 0)) (getD v i 0)
-unfolding within
-within-at [] [] h i = (omega arith, omega arith)
-within-at [] (x ∷ v) h i = let z : _≡_ {A = ℕ} 0 1 = cc in absurd (omega arith)
-within-at (f ∷ fs) [] h i = let z : _≡_ {A = ℕ} 0 1 = cc in absurd (omega arith)
-within-at (f ∷ fs) (x ∷ v) h zero =
-    let a = both-true (leb (f .low) x) (leb x (f .high)) (both-true (leb (f .low) x && leb x (f .high)) (within fs v) h .0) in
-    (leb-true (f .low) x (a .0), leb-true x (f .high) (a .1))
-within-at (f ∷ fs) (x ∷ v) h (suc i) = within-at fs v (both-true (leb (f .low) x && leb x (f .high)) (within fs v) h .1) i
 
 -- Values that are within their limits one by one.
 within-one : (f : Field) (fs : List Field) (x : ℕ) (v : List ℕ) → Inside f x → within fs v ≡ true → within (f ∷ fs) (x ∷ v) ≡ true
@@ -44,42 +30,42 @@ within-map f g h [] = refl
 within-map f g h (i ∷ is) = within-one (f i) (map f is) (g i) (map g is) (h i) (within-map f g h is)
 
 -- ---- a column of the rows
-abbrev fieldAt : ℕ → Field
-fieldAt i = getD (row .fields) i (field 0 0 0)
+abbrev rowField : ℕ → Field
+rowField i = fieldAt (row .fields) i
 
 abbrev valueAt : ℕ → Row → ℕ
 valueAt i r = getD (row .listed r) i 0
 
-row-at : (r : Row) → ok row r ≡ true → (i : ℕ) → Inside (fieldAt i) (valueAt i r)
+row-at : (r : Row) → ok row r ≡ true → (i : ℕ) → Inside (rowField i) (valueAt i r)
 unfolding ok
-row-at r h i = within-at (row .fields) (row .listed r) (both-true (within (row .fields) (row .listed r)) true h .0) i
+row-at r h i = ok-at row r h i
 
-column-within : (i m : ℕ) (rows : List Row) → Rising m rows → valuesWithin (fieldAt i .low) (fieldAt i .high) (column (valueAt i) rows) ≡ true
+column-within : (i m : ℕ) (rows : List Row) → Rising m rows → valuesWithin (rowField i .low) (rowField i .high) (column (valueAt i) rows) ≡ true
 unfolding Rising
 column-within i m [] h = refl
-column-within i m (r ∷ rows) h = rw (le-leb (fieldAt i .low) (valueAt i r) (row-at r (h .0) i .0), le-leb (valueAt i r) (fieldAt i .high) (row-at r (h .0) i .1)) (column-within i (r .mass) rows (h .2))
+column-within i m (r ∷ rows) h = rw (le-leb (rowField i .low) (valueAt i r) (row-at r (h .0) i .0), le-leb (valueAt i r) (rowField i .high) (row-at r (h .0) i .1)) (column-within i (r .mass) rows (h .2))
 
 module _ (m : ℕ) (rows : List Row) (rising : Rising m rows) (some : full rows ≡ true) where
-  between-at : (i w : ℕ) → Inside (fieldAt i) (between rows (valueAt i) w)
-  between-at i w = between-within (valueAt i) (fieldAt i .low) (fieldAt i .high) m rows some rising (column-within i m rows rising) w
+  between-at : (i w : ℕ) → Inside (rowField i) (between rows (valueAt i) w)
+  between-at i w = between-within (valueAt i) (rowField i .low) (rowField i .high) m rows some rising (column-within i m rows rising) w
 
-  kn-within : (w : ℕ) → within (map (λ i. fieldAt (suc (suc (suc i)))) stations) (knAt rows w) ≡ true
+  kn-within : (w : ℕ) → within (map (λ i. rowField (suc (suc (suc i)))) stations) (knAt rows w) ≡ true
   unfolding knAt
-  kn-within w = within-map (λ i. fieldAt (suc (suc (suc i)))) (λ i. between rows (valueAt (suc (suc (suc i)))) w) (λ i. between-at (suc (suc (suc i))) w) stations
+  kn-within w = within-map (λ i. rowField (suc (suc (suc i)))) (λ i. between rows (valueAt (suc (suc (suc i)))) w) (λ i. between-at (suc (suc (suc i))) w) stations
 
 -- ---- W between the first row's and the last's
-first-from : (m : ℕ) (rows : List Row) → Rising m rows → full rows ≡ true → fieldAt 0 .low ≤ firstMass rows
+first-from : (m : ℕ) (rows : List Row) → Rising m rows → full rows ≡ true → rowField 0 .low ≤ firstMass rows
 unfolding Rising firstMass
 first-from m [] h s = let z : _≡_ {A = ℕ} 0 1 = cc in absurd (omega arith)
 first-from m (r ∷ rows) h s = row-at r (h .0) 0 .0
 
-last-to : (m : ℕ) (rows : List Row) → Rising m rows → lastMass rows ≤ fieldAt 0 .high
+last-to : (m : ℕ) (rows : List Row) → Rising m rows → lastMass rows ≤ rowField 0 .high
 unfolding Rising lastMass
 last-to m [] h = omega arith
 last-to m (r ∷ []) h = row-at r (h .0) 0 .1
 last-to m (r ∷ s ∷ rows) h = last-to (r .mass) (s ∷ rows) (h .2)
 
-mass-within : (m : ℕ) (rows : List Row) → Rising m rows → full rows ≡ true → (w : ℕ) → inTable rows w ≡ true → Inside (fieldAt 0) w
+mass-within : (m : ℕ) (rows : List Row) → Rising m rows → full rows ≡ true → (w : ℕ) → inTable rows w ≡ true → Inside (rowField 0) w
 unfolding inTable
 mass-within m rows h s w e =
     let a = both-true (leb (firstMass rows) w) (leb w (lastMass rows)) e in
@@ -90,9 +76,9 @@ form-within : (s : Ship) (rows : List Row) (c : Weather) (w kg m : ℕ) → Risi
 unfolding ok loadedAt
 form-within s rows c w kg m h f e =
     ap (λ (b : Bool). b && true)
-    (within-one (fieldAt 0) (fieldAt 1 ∷ fieldAt 2 ∷ knFields) w (draught ∷ km ∷ knAt rows w) (mass-within m rows h f w e)
-    (within-one (fieldAt 1) (fieldAt 2 ∷ knFields) draught (km ∷ knAt rows w) (between-at m rows h f 1 w)
-    (within-one (fieldAt 2) knFields km (knAt rows w) (between-at m rows h f 2 w) (kn-within m rows h f w))))
+    (within-one (rowField 0) (rowField 1 ∷ rowField 2 ∷ knFields) w (draught ∷ km ∷ knAt rows w) (mass-within m rows h f w e)
+    (within-one (rowField 1) (rowField 2 ∷ knFields) draught (km ∷ knAt rows w) (between-at m rows h f 1 w)
+    (within-one (rowField 2) knFields km (knAt rows w) (between-at m rows h f 2 w) (kn-within m rows h f w))))
   where
     draught : ℕ
     draught = between rows (λ r. r .draught) w
@@ -101,7 +87,7 @@ form-within s rows c w kg m h f e =
     km = between rows (λ r. r .km) w
 
     knFields : List Field
-    knFields = map (λ i. fieldAt (suc (suc (suc i)))) stations
+    knFields = map (λ i. rowField (suc (suc (suc i)))) stations
 
 passed : (b : Bool) → test b 8 0 0 ≡ got tt → b ≡ true
 unfolding test

@@ -9,7 +9,7 @@ use lib.Seq.{drop-cons, take-at, drop-at}
 use lib.Dec.{ltb, leb}
 use borrow.Author.Tests.{ltb-true, leb-true}
 use Rattle.rules.specs.Numbers.{digits, Bytes}
-use Rattle.rules.specs.Blocks.{Field, size, values, spellValues, within, Layout, ok, ship, row, weather, Load, item, tank, entry}
+use Rattle.rules.specs.Blocks.{Field, field, size, values, spellValues, within, Layout, ok, ship, row, weather, Load, item, tank, entry}
 use Rattle.rules.proofs.Numbers.{Bytes-take, Bytes-drop, Bytes-append, Bytes-digits, length-digits, num-digits, digits-num}
 
 pub both-true : (a b : Bool) → (a && b) ≡ true → (a ≡ true) × (b ≡ true)
@@ -137,3 +137,26 @@ pub entry-lawful : (k : Load) → Lawful (entry k)
 unfolding narrow size
 entry-lawful item = record { named-listed = λ a. refl; listed-named = each 2; limits = refl; tag-fits = omega arith; size-fits = omega arith }
 entry-lawful tank = record { named-listed = λ a. refl; listed-named = each 5; limits = refl; tag-fits = omega arith; size-fits = omega arith }
+
+-- ---- limits, field by field
+-- The field of a number, and a value between its limits.
+abbrev pub fieldAt : List Field → ℕ → Field
+fieldAt fs i = getD fs i (field 0 0 0)
+
+abbrev pub Inside : Field → ℕ → Type 0
+Inside f x = (f .low ≤ x) × (x ≤ f .high)
+
+within-at : (fs : List Field) (v : List ℕ) → within fs v ≡ true → (i : ℕ) → Inside (fieldAt fs i) (getD v i 0)
+unfolding within
+within-at [] [] e i = (omega arith, omega arith)
+within-at [] (x ∷ v) e i = absurd (let z : _≡_ {A = ℕ} 0 1 = cc in omega arith)
+within-at (f ∷ fs) [] e i = absurd (let z : _≡_ {A = ℕ} 0 1 = cc in omega arith)
+within-at (f ∷ fs) (x ∷ v) e zero =
+    let b = both-true (leb (f .low) x) (leb x (f .high)) (both-true (leb (f .low) x && leb x (f .high)) (within fs v) e .0) in
+    (leb-true (f .low) x (b .0), leb-true x (f .high) (b .1))
+within-at (f ∷ fs) (x ∷ v) e (suc i) = within-at fs v (both-true (leb (f .low) x && leb x (f .high)) (within fs v) e .1) i
+
+-- A value of a block that is ok lies within its field's limits.
+pub ok-at : {A : Type 0} (L : Layout A) (a : A) → ok L a ≡ true → (i : ℕ) → Inside (fieldAt (L .fields) i) (getD (L .listed a) i 0)
+unfolding ok
+ok-at L a e = within-at (L .fields) (L .listed a) (both-true (within (L .fields) (L .listed a)) (L .further a) e .0)

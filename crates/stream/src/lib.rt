@@ -1,6 +1,6 @@
 // A stream of texts on standard input: for each text four bytes with its length, the highest first, and then that many bytes.
 ghost use mathlib.Core.Path.{_≡_};
-ghost use Prim.Native.Nat.{_≤_, _<_};
+ghost use Prim.Native.Nat.{_<_};
 ghost use lib.ListN.{length};
 ghost use Rattle.stream.specs.Stream.{lengthOf, Fits};
 

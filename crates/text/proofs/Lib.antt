@@ -2,4 +2,4 @@ pub mod Digits
 pub mod Decoded
 pub mod Ended
 pub mod Laws
-pub mod Unique
+pub mod OneAnswer

@@ -4,8 +4,8 @@
 mod bounds;
 mod chance;
 mod characters;
-mod dice;
-mod draft;
+pub mod dice;
+pub mod draft;
 mod edges;
 mod faults;
 mod load;

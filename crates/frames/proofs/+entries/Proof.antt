@@ -17,11 +17,12 @@ use Rattle.frames.specs.Told.{loadRead}
 use Rattle.frames.specs.declared.LoadRead.the-variants.{Sum}
 use Rattle.frames.proofs.Adding.{plus-end}
 use Rattle.frames.proofs.Bounds.{plus-bounded, each-byte}
-use Rattle.frames.proofs.Answers.{told-refused, told-entry, told-group, entry-bounded, group-bounded, load-refused, load-sum, after-entry, after-group}
+use Rattle.frames.proofs.Blocks.{told-refused, told-entry, told-group, entry-bounded}
+use Rattle.frames.proofs.Load.{group-bounded, load-refused, load-sum, after-entry, after-group}
 use Rattle.frames.proofs.entries.Reads as reads
 use Rattle.frames.proofs.entries.Kinds as kinds
 use Rattle.frames.proofs.+entries.Lts-entries as lts
-use Rattle.blocks.proofs.block_at.Reads as block-at-reads
+use Rattle.blocks.proofs.entries.block_at.Reads as block-at-reads
 use Rattle.blocks.proofs.header.Reads as header-reads
 use Rattle.blocks.proofs.refusal.Reads as refusal-reads
 use Rattle.frames.proofs.add.Reads as add-reads
@@ -81,10 +82,10 @@ module _ (m : ℕ) where
   add-end c = let h = head c in omega arith
 
   sub-body : lts.Need-sub-body calls Pre reads.Post
-  sub-body c = search needs
+  sub-body c = let h = head c in omega arith
 
   part-body-start : lts.Need-part-body-start calls Pre reads.Post
-  part-body-start c = search needs
+  part-body-start c = let h = head c in omega arith
 
   part-body-end : lts.Need-part-body-end calls Pre reads.Post
   part-body-end c = let h = head c in omega arith

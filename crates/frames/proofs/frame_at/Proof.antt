@@ -11,7 +11,7 @@ use Rattle.rules.specs.Parts.{headAt}
 use Rattle.rules.proofs.FrameWays.{frame-short, frame-tag, frame-many, frame-row, frame-few, frame-condition}
 use Rattle.blocks.proofs.Heads.{head-short, head-block}
 use Rattle.frames.specs.Told.{frameRead}
-use Rattle.frames.proofs.Answers.{row-as-frame, condition-as-frame}
+use Rattle.frames.proofs.Frame.{row-as-frame, condition-as-frame}
 use Rattle.frames.proofs.frame_at.Statement.{statement}
 use Rattle.frames.proofs.frame_at.Tie as tie
 

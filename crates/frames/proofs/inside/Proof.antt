@@ -13,7 +13,7 @@ use Rattle.rules.proofs.Answers.{bind-got, bind-refused}
 use Rattle.rules.proofs.FrameWays.{inside-none, inside-short, inside-block}
 use Rattle.blocks.proofs.Heads.{head-short, head-block}
 use Rattle.frames.specs.Told.{conditionRead, loaded}
-use Rattle.frames.proofs.Answers.{weather-refused, weather-got, condition-loaded}
+use Rattle.frames.proofs.Frame.{weather-refused, weather-got, condition-loaded}
 use Rattle.frames.proofs.inside.Statement.{statement}
 use Rattle.frames.proofs.inside.Tie as tie
 

@@ -46,42 +46,39 @@ from6 c = from5 (c .before .before .before)
 abbrev from7 : tie.After-verdict7 → tie.Start
 from7 c = from6 (c .before .before)
 
-abbrev number : Bool → ℕ
-number passes = verdictNumber (verdict passes)
-
 -- A figure as the machine holds it, against its limit.
-against : (limit : ℕ) (z figure : ℤ) → mag z < 2 ^ 63 → z ≡ figure → number (leZ (pos limit) (toZ w64 (ofZ w64 z))) ≡ number (leZ (pos limit) figure)
+against : (limit : ℕ) (z figure : ℤ) → mag z < 2 ^ 63 → z ≡ figure → verdictNumber (verdict (leZ (pos limit) (toZ w64 (ofZ w64 z)))) ≡ verdictNumber (verdict (leZ (pos limit) figure))
 against limit z figure h e = rw (back z h, e)
 
 -- ---- verdict by verdict
-first : (c : tie.After-verdict) → c .verdict .result ≡ number (passes1 (ship (from1 c)))
+first : (c : tie.After-verdict) → c .verdict .result ≡ verdictNumber (verdict (passes1 (ship (from1 c))))
 unfolding passes1
 first c = c .verdict .ensures ∙ against 315_126_800_000 (from1 c .args .righting .area1) (area1 (ship (from1 c))) (c .before .struct-told .given .0 .1) (ap (λ (r : Righting). r .area1) (from1 c .pre .1))
 
-second : (c : tie.After-verdict2) → c .verdict2 .result ≡ number (passes2 (ship (from2 c)))
+second : (c : tie.After-verdict2) → c .verdict2 .result ≡ verdictNumber (verdict (passes2 (ship (from2 c))))
 unfolding passes2
 second c = c .verdict2 .ensures ∙ against 171_887_400_000 (from2 c .args .righting .area2) (area2 (ship (from2 c))) (c .before .struct-told2 .given .1 .0 .1) (ap (λ (r : Righting). r .area2) (from2 c .pre .1))
 
-third : (c : tie.After-verdict3) → c .verdict3 .result ≡ number (passes3 (ship (from3 c)))
+third : (c : tie.After-verdict3) → c .verdict3 .result ≡ verdictNumber (verdict (passes3 (ship (from3 c))))
 unfolding passes3
 third c = c .verdict3 .ensures ∙ against 515_662_100_000 (from3 c .args .righting .area3) (area3 (ship (from3 c))) (c .before .struct-told3 .given .1 .1 .0 .1) (ap (λ (r : Righting). r .area3) (from3 c .pre .1))
 
-fourth : (c : tie.After-verdict4) → c .verdict4 .result ≡ number (passes4 (ship (from4 c)))
+fourth : (c : tie.After-verdict4) → c .verdict4 .result ≡ verdictNumber (verdict (passes4 (ship (from4 c))))
 fourth c =
     c .verdict4 .ensures
     ∙ against 1_000_000_000 (from4 c .args .righting .lever) (greatestLever (ship (from4 c))) (c .before .struct-told4 .given .1 .1 .1 .0 .1) (ap (λ (r : Righting). r .lever) (from4 c .pre .1))
-    ∙ ap number (lever-decides (ship (from4 c)))
+    ∙ ap (λ (passes : Bool). verdictNumber (verdict passes)) (lever-decides (ship (from4 c)))
 
-fifth : (c : tie.After-verdict5) → c .verdict5 .result ≡ number (passes5 (ship (from5 c)))
+fifth : (c : tie.After-verdict5) → c .verdict5 .result ≡ verdictNumber (verdict (passes5 (ship (from5 c))))
 unfolding passes5
-fifth c = c .verdict5 .ensures ∙ ap (λ (r : Righting). number (leb 250 (r .angle))) (from5 c .pre .1)
+fifth c = c .verdict5 .ensures ∙ ap (λ (r : Righting). verdictNumber (verdict (leb 250 (r .angle)))) (from5 c .pre .1)
 
-sixth : (c : tie.After-verdict6) → c .verdict6 .result ≡ number (passes6 (ship (from6 c)))
+sixth : (c : tie.After-verdict6) → c .verdict6 .result ≡ verdictNumber (verdict (passes6 (ship (from6 c))))
 unfolding passes6
 sixth c = c .verdict6 .ensures ∙ against 150 (from6 c .args .righting .gm) (gm (ship (from6 c))) (c .before .struct-told5 .given .1 .1 .1 .1 .1 .0 .1) (ap (λ (r : Righting). r .gm) (from6 c .pre .1))
 
-seventh : (c : tie.After-verdict7) → c .verdict7 .result ≡ number (passes7 (ship (from7 c)))
-seventh c = c .verdict7 .ensures ∙ ap number (c .before .upright .ensures)
+seventh : (c : tie.After-verdict7) → c .verdict7 .result ≡ verdictNumber (verdict (passes7 (ship (from7 c))))
+seventh c = c .verdict7 .ensures ∙ ap (λ (passes : Bool). verdictNumber (verdict passes)) (c .before .upright .ensures)
 
 eighth : (s : tie.Start) → s .args .eighth .verdict ≡ verdictNumber (verdict8 (ship s))
 eighth s = ap (λ (l : Eighth). l .verdict) (s .pre .3 ∙ eighth-is (ship s))

@@ -1,0 +1,58 @@
+// C1: the weather of a condition.
+ghost use mathlib.Core.Path.{_≡_};
+ghost use lib.ListN.{length};
+ghost use Rattle.rules.specs.Blocks.{values, ok, weather};
+ghost use Rattle.rules.specs.Walk.{weatherAt};
+ghost use Rattle.book.specs.Book.{weatherOf};
+ghost use Rattle.blocks.specs.Told.{weatherRead};
+use crate::numbers::both;
+use crate::numbers::fits;
+use crate::numbers::u16_at;
+use crate::numbers::u32_at;
+use crate::refusal;
+
+pub enum WeatherRead {
+    Within(book::Weather),
+    Refused(book::Refusal),
+}
+
+fn read_weather(body: &[u8]) -> book::Weather
+    requires { ⌜ length (now body) ≡ 12 ⌝ }
+    ensures { λ r. ⌜ weatherOf r ≡ weather .named (values (weather .fields) (now (body .entry))) ⌝ }
+{
+    book::Weather {
+        wind: u32_at(body, 0),
+        z: u16_at(body, 4),
+        cb: u16_at(body, 6),
+        flooding: u16_at(body, 8),
+        deck: u16_at(body, 10),
+    }
+}
+
+fn weather_fits(w: book::Weather) -> bool
+    ensures { λ r. ⌜ r ≡ ok weather (weatherOf w) ⌝ }
+{
+    let angles = both(fits(w.flooding, 0, 600), fits(w.deck, 1, 600));
+    both(
+        fits(w.wind, 0, 300_000),
+        both(fits(w.z, 0, 60_000), both(fits(w.cb, 200, 1_000), angles)),
+    )
+}
+
+// The weather of a condition as it begins, at offset 3: 4, 3, 6.
+pub fn weather_at(tag: u8, body: &[u8], line: usize) -> WeatherRead
+    ensures { λ r. ⌜ r ≡ weatherRead (weatherAt line tag (now (body .entry))) ⌝ }
+{
+    if tag != 0xC1 {
+        return WeatherRead::Refused(refusal(4, line, 3));
+    }
+    if body.len() != 12 {
+        return WeatherRead::Refused(refusal(3, line, 3));
+    }
+    let w = read_weather(body);
+    if weather_fits(w) {
+        WeatherRead::Within(w)
+    } else {
+        WeatherRead::Refused(refusal(6, line, 3))
+    }
+}

@@ -1,0 +1,90 @@
+-- What is promised of the instrument, to be read without the proofs: each promise is one theorem with a sentence above it, and its proof stands elsewhere.
+-- All are stated of `judge` through its contract, which `judge` is proved to meet (proofs/judge). Their words are defined in the rules' specs/: Answer and Report (what is answered, and its 209 characters), Layout (which texts are allowed), Walk (the reading), Loading (masses and KG); and in specs/Outside (7 and 8).
+use mathlib.Core.Path.{_≡_, sym, _∙_}
+use mathlib.Core.Logic.{_↔_, _≢_}
+use mathlib.Core.List.{List}
+use Prim.Native.Nat.{ℕ, _≤_, _<_}
+use lib.ListN.{length, take, drop}
+use denote.Ref.{now}
+use Rattle.rules.specs.Layout.{Reading, Allowed}
+use Rattle.rules.specs.Answers.{refused, got}
+use Rattle.rules.specs.Walk.{read}
+use Rattle.rules.specs.Loading.{weighed}
+use Rattle.rules.specs.Curve.{loaded}
+use Rattle.rules.specs.Report.{judgement, noJudgement, report, reportLength}
+use Rattle.rules.specs.Answer.{answered, reportOf, number, written}
+use Rattle.instrument.specs.Outside.{Outside, TooHigh, Neither}
+use Rattle.instrument.proofs.judge.Reads as judge
+use Rattle.instrument.proofs.Promised as promised
+
+-- One run of `judge` as its contract admits it: lent `text` and the buffer `before`, it sends back `n` and leaves the buffer `after`.
+-- (Post is what rattle makes of the contract itself; a: the arguments, s: the arguments at the end.)
+abbrev pub Judges : List ℕ → List ℕ → ℕ → List ℕ → Type 0
+Judges text before n after = (κs : _) × (a : _) × (s : _) × judge.Post κs a n s × (now (a .0) ≡ text) × (now (a .1 .0) ≡ before) × (now (s .1 .0) ≡ after)
+
+-- Lent this text and this buffer, `judge` sends back the number and leaves the buffer that the rules settle.
+contract : (text before : List ℕ) (n : ℕ) (after : List ℕ) → Judges text before n after → (n ≡ number text before) × (after ≡ written text before)
+contract text before n after run = rw (← (run .4), ← (run .5), ← (run .6)) (run .3)
+
+module _ (text before : List ℕ) (n : ℕ) (after : List ℕ) (run : Judges text before n after) where
+  settled : (n ≡ number text before) × (after ≡ written text before)
+  settled = contract text before n after run
+
+  -- ---- every text is answered
+  -- With fewer than 209 bytes of room the number is 9 and every byte of the buffer is as it was, whatever the text.
+  pub no-room : length before < reportLength → (n ≡ 9) × (after ≡ before)
+  no-room = promised.short text before n after (settled .0) (settled .1)
+
+  module _ (room : reportLength ≤ length before) where
+    -- With room for 209 bytes every text is answered: the number is one of 0 to 8, the first 209 characters are the report of what document 01 answers, and each byte beyond is as it was.
+    pub every-text-answered : (n ≤ 8) × (take reportLength after ≡ reportOf (answered text)) × (drop reportLength after ≡ drop reportLength before)
+    every-text-answered = promised.room text before n after (settled .0) (settled .1) room
+
+    -- ---- demand 1: a refusal says what and where
+    -- A text that is refused in the reading gets that refusal's number, and its report has the number, the line and the offset, verdicts 3 and figures 0.
+    pub refusal-reported : (m l o : ℕ) → read text ≡ refused m l o → (n ≡ m) × (take reportLength after ≡ report m l o noJudgement)
+    refusal-reported = promised.refusal-sent text before n after (settled .0) (settled .1) room
+
+    -- A reading that is refused for its mass or its KG gets 7 or 8, and its report has line 0 and offset 0, verdicts 3 and figures 0.
+    pub refusal-reported-7-8 : (r : Reading) → read text ≡ got r → (m : ℕ) → weighed r ≡ refused m 0 0 → (n ≡ m) × (take reportLength after ≡ report m 0 0 noJudgement)
+    refusal-reported-7-8 = promised.weighing-sent text before n after (settled .0) (settled .1) room
+
+    -- ---- demand 2: the figures are those of the reading
+    -- For a text that is read and within the table and the KG, the verdicts and figures reported are those that document 01 gives for its reading.
+    pub figures-of-reading : (r : Reading) → read text ≡ got r → weighed r ≡ got tt → (n ≡ 0) × (take reportLength after ≡ report 0 0 0 (judgement (loaded r)))
+    figures-of-reading = promised.judgement-sent text before n after (settled .0) (settled .1) room
+
+    -- ---- demand 3: which texts are judged
+    -- The number is none of 1 to 6 and 9 exactly when the text is allowed.
+    pub read-iff-allowed : ((¬ ((1 ≤ n) × (n ≤ 6))) × (n ≢ 9)) ↔ Allowed text
+    read-iff-allowed = promised.unrefused text before n after (settled .0) (settled .1) room
+
+    -- It is 7 exactly when the text is allowed and its total mass is below the table's first row or above its last.
+    pub seven-iff-outside : (n ≡ 7) ↔ ((a : Allowed text) × Outside (a .0))
+    seven-iff-outside = promised.number-7 text before n after (settled .0) (settled .1) room
+
+    -- It is 8 exactly when the text is allowed, its mass inside the table, and the corrected KG above 60,000.
+    pub eight-iff-too-high : (n ≡ 8) ↔ ((a : Allowed text) × TooHigh (a .0))
+    eight-iff-too-high = promised.number-8 text before n after (settled .0) (settled .1) room
+
+    -- It is 0, and the ship is judged, exactly when the text is allowed and neither holds.
+    pub judged-iff-neither : (n ≡ 0) ↔ ((a : Allowed text) × Neither (a .0))
+    judged-iff-neither = promised.number-0 text before n after (settled .0) (settled .1) room
+
+-- ---- one answer
+-- Any two runs over the same text and the same buffer send back the same number and leave the same buffer.
+pub one-answer : (text before : List ℕ) (n n′ : ℕ) (after after′ : List ℕ) → Judges text before n after → Judges text before n′ after′ → (n ≡ n′) × (after ≡ after′)
+one-answer text before n n′ after after′ run run′ =
+    let p = contract text before n after run in
+    let q = contract text before n′ after′ run′ in
+    (p .0 ∙ sym (q .0), p .1 ∙ sym (q .1))
+
+-- Two texts that have the same reading, each with room, get the same number and the same report: what is judged is the reading, and nothing else of the text or of the buffer.
+pub reading-settles : (text text′ before before′ : List ℕ) (n n′ : ℕ) (after after′ : List ℕ) → Judges text before n after → Judges text′ before′ n′ after′
+    → reportLength ≤ length before → reportLength ≤ length before′ → (r : Reading) → read text ≡ got r → read text′ ≡ got r → (n ≡ n′) × (take reportLength after ≡ take reportLength after′)
+reading-settles text text′ before before′ n n′ after after′ run run′ room room′ r e e′ =
+    let p = contract text before n after run in
+    let q = contract text′ before′ n′ after′ run′ in
+    let u = promised.of-reading text before n after (p .0) (p .1) room r e in
+    let v = promised.of-reading text′ before′ n′ after′ (q .0) (q .1) room′ r e′ in
+    (u .0 ∙ sym (v .0), u .1 ∙ sym (v .1))

@@ -1,0 +1,22 @@
+//! Which roundings favour the ship: criteria 5 and 8 with one value of
+//! document 01 kept exact, or all of them, and a search for texts that pass
+//! by a rounding.
+
+mod big;
+mod draw;
+mod fraction;
+mod hull;
+mod levers;
+mod roll;
+mod rounding;
+mod search;
+mod show;
+mod tally;
+mod tune;
+mod weather;
+
+#[cfg(test)]
+mod tests;
+
+pub use search::Search;
+pub use show::table;
