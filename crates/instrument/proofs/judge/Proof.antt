@@ -8,7 +8,7 @@ use Rattle.instrument.proofs.judge.Statement.{statement}
 use Rattle.instrument.proofs.judge.Tie as tie
 
 returns : tie.Need-returns
-returns c = (sym (number-short _ _ (c .if1 .taken)), sym (written-short _ _ (c .if1 .taken)))
+returns c = (sym (number-short _ _ (omega arith)), sym (written-short _ _ (omega arith)))
 
 read-text-requires : tie.Need-read-text-requires
 read-text-requires c κs = search needs
