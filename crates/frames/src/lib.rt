@@ -69,23 +69,26 @@ fn entries(s: &[u8], line: usize, at: usize, depth: u64, t: book::Sums) -> LoadR
     if s.len() == 0 {
         return LoadRead::Sum(t);
     }
-    let blocks::Begun::Block { tag, len } = blocks::header(s) else {
-        return LoadRead::Refused(blocks::refusal(2, line, at));
-    };
-    let end = 3 + len;
-    let body = &s[3..end];
-    let rest = &s[end..];
-    let body_at = at + 3;
-    let b = blocks::block_at(tag, body, line, at, depth, MOST_ENTRIES - t.count);
-    match b {
-        blocks::Block::Refused(r) => LoadRead::Refused(r),
-        blocks::Block::Entry(e) => entries(rest, line, body_at + len, depth, add(t, e)),
-        blocks::Block::Group => {
-            let inner = entries(body, line, body_at, depth - 1, t);
-            let LoadRead::Sum(u) = inner else {
-                return inner;
-            };
-            entries(rest, line, body_at + len, depth, u)
+    let head = cursor::begin(s, at, line);
+    match head {
+        cursor::Head::Refused(r) => LoadRead::Refused(r),
+        cursor::Head::Block { tag, len } => {
+            let body = cursor::bytes(s, at, cursor::Part::Body, len);
+            let rest = cursor::bytes(s, at, cursor::Part::Rest, len);
+            let rest_at = cursor::onward(at, cursor::Part::Rest, len);
+            let b = blocks::block_at(tag, body, line, at, depth, MOST_ENTRIES - t.count);
+            match b {
+                blocks::Block::Refused(r) => LoadRead::Refused(r),
+                blocks::Block::Entry(e) => entries(rest, line, rest_at, depth, add(t, e)),
+                blocks::Block::Group => {
+                    let body_at = cursor::onward(at, cursor::Part::Body, len);
+                    let inner = entries(body, line, body_at, depth - 1, t);
+                    let LoadRead::Sum(u) = inner else {
+                        return inner;
+                    };
+                    entries(rest, line, rest_at, depth, u)
+                }
+            }
         }
     }
 }
@@ -125,14 +128,20 @@ fn inside(body: &[u8], line: usize) -> ConditionRead
     if body.len() == 0 {
         return ConditionRead::Refused(blocks::refusal(5, line, 0));
     }
-    let blocks::Begun::Block { tag, len } = blocks::header(body) else {
-        return ConditionRead::Refused(blocks::refusal(2, line, 3));
-    };
-    let w = blocks::weather_at(tag, &body[3..3 + len], line);
-    match w {
-        blocks::WeatherRead::Refused(r) => ConditionRead::Refused(r),
-        blocks::WeatherRead::Within(weather) => {
-            loaded(weather, load_at(&body[3 + len..], line, 6 + len))
+    let head = cursor::begin(body, 3, line);
+    match head {
+        cursor::Head::Refused(r) => ConditionRead::Refused(r),
+        cursor::Head::Block { tag, len } => {
+            let first = cursor::bytes(body, 3, cursor::Part::Body, len);
+            let w = blocks::weather_at(tag, first, line);
+            match w {
+                blocks::WeatherRead::Refused(r) => ConditionRead::Refused(r),
+                blocks::WeatherRead::Within(weather) => {
+                    let rest = cursor::bytes(body, 3, cursor::Part::Rest, len);
+                    let rest_at = cursor::onward(3, cursor::Part::Rest, len);
+                    loaded(weather, load_at(rest, line, rest_at))
+                }
+            }
         }
     }
 }
