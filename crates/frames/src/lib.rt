@@ -13,6 +13,8 @@ use blocks::entries::Block;
 use blocks::refusal;
 use blocks::row::RowAnswer;
 use blocks::weather::WeatherRead;
+use cursor::Head;
+use cursor::Part;
 
 // 'At most 200 items and tanks', 'at most 4 groups deep', 'at most 4,096 bytes', '2 to 40 A2'.
 const MOST_ENTRIES: u64 = 200;
@@ -74,23 +76,26 @@ fn entries(s: &[u8], line: usize, at: usize, depth: u64, t: book::Sums) -> LoadR
     if s.len() == 0 {
         return LoadRead::Sum(t);
     }
-    let Begun::Block { tag, len } = blocks::header(s) else {
-        return LoadRead::Refused(refusal(2, line, at));
-    };
-    let end = 3 + len;
-    let body = &s[3..end];
-    let rest = &s[end..];
-    let body_at = at + 3;
-    let b = blocks::entries::block_at(tag, body, line, at, depth, MOST_ENTRIES - t.count);
-    match b {
-        Block::Refused(r) => LoadRead::Refused(r),
-        Block::Entry(e) => entries(rest, line, body_at + len, depth, add(t, e)),
-        Block::Group => {
-            let inner = entries(body, line, body_at, depth - 1, t);
-            let LoadRead::Sum(u) = inner else {
-                return inner;
-            };
-            entries(rest, line, body_at + len, depth, u)
+    let head = cursor::begin(s, at, line);
+    match head {
+        Head::Refused(r) => LoadRead::Refused(r),
+        Head::Block { tag, len } => {
+            let body = cursor::bytes(s, at, Part::Body, len);
+            let rest = cursor::bytes(s, at, Part::Rest, len);
+            let rest_at = cursor::onward(at, Part::Rest, len);
+            let b = blocks::entries::block_at(tag, body, line, at, depth, MOST_ENTRIES - t.count);
+            match b {
+                Block::Refused(r) => LoadRead::Refused(r),
+                Block::Entry(e) => entries(rest, line, rest_at, depth, add(t, e)),
+                Block::Group => {
+                    let body_at = cursor::onward(at, Part::Body, len);
+                    let inner = entries(body, line, body_at, depth - 1, t);
+                    let LoadRead::Sum(u) = inner else {
+                        return inner;
+                    };
+                    entries(rest, line, rest_at, depth, u)
+                }
+            }
         }
     }
 }
@@ -130,14 +135,20 @@ fn inside(body: &[u8], line: usize) -> ConditionRead
     if body.len() == 0 {
         return ConditionRead::Refused(refusal(5, line, 0));
     }
-    let Begun::Block { tag, len } = blocks::header(body) else {
-        return ConditionRead::Refused(refusal(2, line, 3));
-    };
-    let w = blocks::weather::weather_at(tag, &body[3..3 + len], line);
-    match w {
-        WeatherRead::Refused(r) => ConditionRead::Refused(r),
-        WeatherRead::Within(weather) => {
-            loaded(weather, load_at(&body[3 + len..], line, 6 + len))
+    let head = cursor::begin(body, 3, line);
+    match head {
+        Head::Refused(r) => ConditionRead::Refused(r),
+        Head::Block { tag, len } => {
+            let first = cursor::bytes(body, 3, Part::Body, len);
+            let w = blocks::weather::weather_at(tag, first, line);
+            match w {
+                WeatherRead::Refused(r) => ConditionRead::Refused(r),
+                WeatherRead::Within(weather) => {
+                    let rest = cursor::bytes(body, 3, Part::Rest, len);
+                    let rest_at = cursor::onward(3, Part::Rest, len);
+                    loaded(weather, load_at(rest, line, rest_at))
+                }
+            }
         }
     }
 }

@@ -1,0 +1,4 @@
+pub mod Parts
+pub mod Heads
+pub mod Held
+pub mod Opened
