@@ -3,6 +3,4 @@ pub mod Bounds
 pub mod Blocks
 pub mod Load
 pub mod Frame
-pub mod Unique
-pub mod Answers
 pub mod OneAnswer
