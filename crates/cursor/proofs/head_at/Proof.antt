@@ -1,38 +1,29 @@
+-- `head_at` meets its contract: the head, or 2 at the place.
 use mathlib.Core.Path.{ap, sym}
+use borrow.Author.Needs.{needs}
 use Rattle.blocks.proofs.Heads.{head-short, head-block}
 use Rattle.cursor.specs.Told.{headOf}
 use Rattle.cursor.proofs.Heads.{block-head}
-use borrow.Author.Needs.{needs}
 use Rattle.cursor.proofs.head_at.Statement.{statement}
 use Rattle.cursor.proofs.head_at.Tie as tie
-use Rattle.cursor.proofs.head_at.Reads as reads
-use Rattle.cursor.proofs.head_at.Lts as lts
-use Rattle.blocks.proofs.header.Reads as header-reads
-use Rattle.blocks.proofs.refusal.Reads as refusal-reads
 
--- src/lib.rt:26:45
 header-requires : tie.Need-header-requires
 header-requires c κs = search needs
 
--- src/lib.rt:26:32
 enum-known-tag : tie.Need-enum-known-tag
 enum-known-tag c = search needs
 
--- src/lib.rt:27:30
 enum-told : tie.Need-enum-told
 enum-told c = search needs
 
--- src/lib.rt:27:30
 refusal-requires : tie.Need-refusal-requires
 refusal-requires c κs = search needs
 
--- src/lib.rt:27:9
 returns : tie.Need-returns
 returns c =
     let h = c .before .before .before in
     rw (c .refusal .ensures) (sym (ap headOf (head-short _ _ (h .header .ensures) (c .before .enum-told .given .1) _ _)))
 
--- src/lib.rt:23:1
 returns-2 : tie.Need-returns-2
 returns-2 c =
     let k = c .before in
