@@ -6,7 +6,6 @@ use native.Mathlib.Omega.{arith}
 use lib.IntN.{ℤ, pos}
 use lib.Seq.{ext-getD}
 use Rattle.rules.specs.Curve as rules
-use Rattle.book.specs.Book.{loadedOf}
 use Rattle.book.specs.declared.Loaded.{Loaded}
 use Rattle.curve.specs.Levers.{Holds}
 use Rattle.curve.proofs.loading.weigh.Reads as weigh

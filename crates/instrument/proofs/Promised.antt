@@ -1,7 +1,7 @@
 -- What the promises rest on: the number and the report of a text step by step, by what its reading is and where its mass and KG lie.
-use mathlib.Core.Path.{_≡_, refl, ap, sym, _∙_}
+use mathlib.Core.Path.{_≡_, refl, ap, _∙_}
 use mathlib.Core.Bool.{Bool, true, false, _&&_}
-use mathlib.Core.List.{List, _++_, map}
+use mathlib.Core.List.{List, map}
 use mathlib.Core.Logic.{_↔_, _≢_, inl, inr, ⊎-elim}
 use Prim.Native.Nat.{ℕ, _≤_, _<_}
 use native.Mathlib.Omega.{arith}
@@ -14,7 +14,7 @@ use Rattle.rules.specs.Answers.{Ans, refused, got, test, _>>_}
 use Rattle.rules.specs.Walk.{read}
 use Rattle.rules.specs.Loading.{weighed, inTable, displacement, correctedKG, firstMass, lastMass, greatestKG, entriesOf}
 use Rattle.rules.specs.Curve.{Loaded, loaded}
-use Rattle.rules.specs.Report.{verdictNumber, Judgement, judgement, noJudgement, report, reportLength}
+use Rattle.rules.specs.Report.{verdictNumber, judgement, noJudgement, report, reportLength}
 use Rattle.rules.specs.Answer.{judged, answered, numberOf, reportOf, number, written}
 use Rattle.rules.proofs.Answer.{answered-refused, answered-read, judged-refused, judged-weighed, report-refused, report-judged, number-short, written-short, number-room, written-room}
 use Rattle.rules.proofs.Answers.{test-got, test-refused}
@@ -39,7 +39,7 @@ module _ (r : Reading) where
   on : inTable (r .rows) (displacement (entriesOf r)) ≡ true → (c : Bool) → leb (correctedKG (entriesOf r)) greatestKG ≡ c → weighed r ≡ test c 8 0 0
   on e c p = weighed-steps ∙ test-got 7 0 0 _ e ∙ ap (λ (b : Bool). test b 8 0 0) p
 
-  pub weighed-cases : {X : Type 0} → (Outside r → weighed r ≡ refused 7 0 0 → X) → (TooHigh r → weighed r ≡ refused 8 0 0 → X) → (Neither r → weighed r ≡ got tt → X) → X
+  weighed-cases : {X : Type 0} → (Outside r → weighed r ≡ refused 7 0 0 → X) → (TooHigh r → weighed r ≡ refused 8 0 0 → X) → (Neither r → weighed r ≡ got tt → X) → X
   unfolding test
   weighed-cases {X} f g h = go (leb (firstMass (r .rows)) (displacement (entriesOf r))) (leb (displacement (entriesOf r)) (lastMass (r .rows))) (leb (correctedKG (entriesOf r)) greatestKG) refl refl refl
     where
@@ -57,15 +57,15 @@ judgement-length : (c : Loaded) → (length (map verdictNumber (judgement c .ver
 unfolding judgement
 judgement-length c = (refl, refl)
 
-pub refusal-length : (n l o : ℕ) → length (reportOf (refused n l o)) ≡ reportLength
+refusal-length : (n l o : ℕ) → length (reportOf (refused n l o)) ≡ reportLength
 refusal-length n l o = rw (report-refused n l o) (report-length n l o _ _ refl refl)
 
-pub judged-length : (c : Loaded) → length (reportOf (got (judgement c))) ≡ reportLength
+judged-length : (c : Loaded) → length (reportOf (got (judgement c))) ≡ reportLength
 judged-length c = rw (report-judged (judgement c)) (report-length 0 0 0 _ _ (judgement-length c .0) (judgement-length c .1))
 
 -- ---- the answer of a text
 module _ (t : List ℕ) where
-  pub by-reading : {X : Type 0} → ((n l o : ℕ) → read t ≡ refused n l o → X) → ((r : Reading) → read t ≡ got r → X) → X
+  by-reading : {X : Type 0} → ((n l o : ℕ) → read t ≡ refused n l o → X) → ((r : Reading) → read t ≡ got r → X) → X
   by-reading {X} f g = go (read t) refl
     where
       go : (a : Ans Reading) → read t ≡ a → X
@@ -84,13 +84,13 @@ module _ (t : List ℕ) where
   fine-answer : (r : Reading) → read t ≡ got r → weighed r ≡ got tt → answered t ≡ got (judgement (loaded r))
   fine-answer r e w = answered-read t r e ∙ judged-weighed r w
 
-  pub answer-length : length (reportOf (answered t)) ≡ reportLength
+  answer-length : length (reportOf (answered t)) ≡ reportLength
   answer-length =
       by-reading
       (λ n l o e. rw (answered-refused t e) (refusal-length n l o))
       (λ r e. weighed-cases r (λ _ w. rw (off-answer r e w) (refusal-length 7 0 0)) (λ _ w. rw (off-answer r e w) (refusal-length 8 0 0)) (λ _ w. rw (fine-answer r e w) (judged-length (loaded r))))
 
-  pub number-to-8 : numberOf (answered t) ≤ 8
+  number-to-8 : numberOf (answered t) ≤ 8
   number-to-8 =
       by-reading
       (λ n l o e. omega (arith, number-of-refusal t e, ap numberOf (answered-refused t e)))

@@ -1,6 +1,6 @@
 -- What 7 and 8 say of a reading, in numbers: the total mass against the table's first and last row, and the corrected KG against 60,000.
 use mathlib.Core.Logic.{_⊎_}
-use Prim.Native.Nat.{ℕ, _≤_, _<_}
+use Prim.Native.Nat.{_≤_, _<_}
 use Rattle.rules.specs.Layout.{Reading}
 use Rattle.rules.specs.Loading.{displacement, correctedKG, firstMass, lastMass, greatestKG, entriesOf}
 

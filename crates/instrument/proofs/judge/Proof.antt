@@ -1,5 +1,5 @@
 -- `instrument::judge` meets its contract: 9 with no room; else the text's own refusal, or what is judged of its reading.
-use mathlib.Core.Path.{_≡_, sym, _∙_}
+use mathlib.Core.Path.{sym}
 use borrow.Author.Needs.{needs}
 use native.Mathlib.Omega.{arith}
 use Rattle.rules.proofs.Answer.{number-short, written-short}
