@@ -1,6 +1,6 @@
 -- The condition and the frame: how the answer for a whole follows from those for its parts.
 use mathlib.Core.Path.{_≡_, refl, ap, sym, _∙_}
-use Prim.Native.Nat.{ℕ, _-_}
+use Prim.Native.Nat.{ℕ}
 use native.Mathlib.Omega.{arith}
 use Rattle.rules.specs.Blocks as rules
 use Rattle.rules.specs.Layout.{Entries}

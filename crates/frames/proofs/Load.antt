@@ -5,7 +5,7 @@ use Prim.Native.Nat.{ℕ, _+_, _-_}
 use native.Mathlib.Omega.{arith}
 use lib.ListN.{drop}
 use Rattle.rules.specs.Numbers.{Bytes}
-use Rattle.rules.specs.Blocks.{Load, Values, entry}
+use Rattle.rules.specs.Blocks.{Load, Values}
 use Rattle.rules.specs.Layout.{Entries, leaf, group, leaves, mostEntries}
 use Rattle.rules.specs.Answers.{Ans, refused, got, _>>=_}
 use Rattle.rules.specs.Walk.{entries}

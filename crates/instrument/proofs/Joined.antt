@@ -1,7 +1,7 @@
 -- The instrument's steps joined: from what was read to 7, 8 or the loaded ship, and from an answer to what is sent back. One fact for each way out.
-use mathlib.Core.Path.{_≡_, refl, ap, sym, _∙_, subst}
+use mathlib.Core.Path.{_≡_, refl, ap, sym, _∙_}
 use mathlib.Core.Bool.{Bool, true, false, cond}
-use mathlib.Core.List.{List, _++_}
+use mathlib.Core.List.{List}
 use Prim.Native.Nat.{ℕ, _≤_, _<_}
 use native.Mathlib.Omega.{arith}
 use lib.Dec.{leb}
@@ -19,7 +19,7 @@ use Rattle.rules.proofs.Answer.{answered-refused, answered-read, judged-refused
 use Rattle.rules.proofs.Fair.{fair}
 use Rattle.rules.proofs.Whole.{sound}
 use Rattle.rules.proofs.Within.{place-within}
-use Rattle.book.specs.Book.{shipOf, weatherOf, rowsOf, tableOf, loadedOf, judgementOf}
+use Rattle.book.specs.Book.{shipOf, weatherOf, rowsOf, loadedOf, judgementOf}
 use Rattle.book.specs.declared.Table.{Table}
 use Rattle.book.specs.declared.Loaded as plain
 use Rattle.book.specs.declared.Judgement as plain′

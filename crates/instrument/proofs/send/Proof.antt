@@ -1,5 +1,5 @@
 -- `instrument::send` meets its contract: what is written is the report of the judgement.
-use mathlib.Core.Path.{_≡_, refl, ap, sym, _∙_}
+use mathlib.Core.Path.{refl, ap, sym, _∙_}
 use mathlib.Core.List.{_++_}
 use borrow.Author.Needs.{needs}
 use lib.ListN.{drop}
