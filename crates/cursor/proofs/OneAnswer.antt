@@ -1,4 +1,4 @@
--- Any two results that the contract of a public function admits are the same. (A part that is handed back is settled by its bytes.)
+-- Any two results that the contract of a public function admits are the same. (A part that is handed back is settled by its bytes and its place in memory.)
 use mathlib.Core.Path.{_≡_, sym, _∙_}
 use denote.Ref.{now}
 use Rattle.cursor.proofs.head_at.Reads as head-at
@@ -10,8 +10,8 @@ use Rattle.cursor.proofs.bytes.Reads as bytes
 pub head-at-one : (κs a r r′ s s′ : _) → head-at.Post κs a r s → head-at.Post κs a r′ s′ → r ≡ r′
 head-at-one κs a r r′ s s′ p q = p ∙ sym q
 
-pub cut-one : (κs a r r′ s s′ : _) → cut.Post κs a r s → cut.Post κs a r′ s′ → now r ≡ now r′
-cut-one κs a r r′ s s′ p q = p ∙ sym q
+pub cut-one : (κs a r r′ s s′ : _) → cut.Post κs a r s → cut.Post κs a r′ s′ → (now r ≡ now r′) × (r .ptr ≡ r′ .ptr)
+cut-one κs a r r′ s s′ p q = (p .0 ∙ sym (q .0), p .1 ∙ sym (q .1))
 
 pub onward-one : (κs a r r′ s s′ : _) → onward.Post κs a r s → onward.Post κs a r′ s′ → r ≡ r′
 onward-one κs a r r′ s s′ p q = p ∙ sym q

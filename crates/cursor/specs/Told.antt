@@ -27,3 +27,7 @@ ends Rest len n = n
 -- The bytes of a part: those inside a block end with the block's own length, those after it with the parent.
 abbrev pub bytesOf : Part → ℕ → List ℕ → List ℕ
 bytesOf p len s = part (starts p len) (ends p len (length s)) s
+
+-- The place in memory that lies n bytes further on, in the same frame.
+abbrev pub further : ℕ × ℕ → ℕ → ℕ × ℕ
+further p n = (p .0, n + p .1)

@@ -4,7 +4,7 @@ ghost use mathlib.Core.Path.{_≡_};
 ghost use Prim.Native.Nat.{_+_, _≤_, _<_, _^_};
 ghost use lib.ListN.{length};
 ghost use Rattle.rules.specs.Walk.{header};
-ghost use Rattle.cursor.specs.Told.{starts, ends, bytesOf, headOf};
+ghost use Rattle.cursor.specs.Told.{starts, ends, bytesOf, further, headOf};
 
 // A block that lies inside its parent, or 2 with its place.
 pub enum Head {
@@ -53,7 +53,7 @@ fn ends(part: Part, len: usize, n: usize) -> usize
 // The bytes of a part.
 pub fn cut(s: &[u8], part: Part, len: usize) -> &[u8]
     requires { ⌜ 3 + len ≤ length (now s) ⌝ }
-    ensures { λ r. ⌜ now r ≡ bytesOf part len (now (s .entry)) ⌝ }
+    ensures { λ r. ⌜ (now r ≡ bytesOf part len (now (s .entry))) × (r .ptr ≡ further (s .entry .ptr) (starts part len)) ⌝ }
 {
     let a = starts(part, len);
     let e = ends(part, len, s.len());
@@ -105,7 +105,7 @@ pub fn begins<'a>(r: Reader<'a>, line: usize) -> Head
 // The reader over the body of the block that begins here, or past that block.
 pub fn over<'a>(r: Reader<'a>, part: Part, len: usize) -> Reader<'a>
     requires { ⌜ (3 + len ≤ length (now (r .src))) × (r .at + (3 + len) < 2 ^ 64) ⌝ }
-    ensures { λ q. ⌜ (now (q .src) ≡ bytesOf part len (now (r .entry .src))) × (q .at ≡ r .entry .at + starts part len) ⌝ }
+    ensures { λ q. ⌜ (now (q .src) ≡ bytesOf part len (now (r .entry .src))) × (q .src .ptr ≡ further (r .entry .src .ptr) (starts part len)) × (q .at ≡ r .entry .at + starts part len) ⌝ }
 {
     Reader {
         src: cut(r.src, part, len),

@@ -36,7 +36,7 @@ use denote.Triple.Table.{entered, cited}
 use denote.Triple.Walked.{says, needs, Stays, stay-none, stay-none-slice, walkOf, goes-none, goes-none-slice, Walks, ends-at, walked, walk-meets}
 use denote.Exit.{yes}
 use denote.Triple.Clauses.{ensured, lasts}
-use Rattle.cursor.specs.Told.{starts, bytesOf}
+use Rattle.cursor.specs.Told.{starts, bytesOf, further}
 use Rattle.cursor.specs.declared.Reader.{Reader}
 use Rattle.cursor.specs.declared.Part.{Part}
 use Rattle.cursor.proofs.Reader as T
@@ -101,7 +101,7 @@ module _ {M : Type 1} (𝓤 : URA M) (H : Heap 𝓤) (A : Atoms 𝓤) (W : Given
       owned ! P.the-row (Is P.the-row) (EL.makes P.the-type P′.the-plain 𝓤 H A) p _ p-is $ fjoin ! $ move ! (1 ∷ 0 ∷ []) $ fjoin ! $ done !
 
   abbrev Moved : Reader → Reader → Type 0
-  Moved r r′ = (now (r′ .src) ≡ bytesOf p len (now (r .src))) × (r′ .at ≡ r .at + starts p len)
+  Moved r r′ = (now (r′ .src) ≡ bytesOf p len (now (r .src))) × (r′ .src .ptr ≡ further (r .src .ptr) (starts p len)) × (r′ .at ≡ r .at + starts p len)
 
   over-said : (r r′ : Reader) → ent 𝓤 (ensured 𝓤 H A over.ended (over.clauses 𝓤 H A mem run) (κ, tt) (r, (p, (len, tt))) tt r′) (fact 𝓤 (Moved r r′))
   over-said r r′ = exE 𝓤 _ (λ ws. snd∗ 𝓤 (sem 𝓤 H A (lasts over.ended (κ, tt) (r, (p, (len, tt))) ws)) (fact 𝓤 (Moved r r′)))

@@ -29,7 +29,7 @@ part-result-end c =
     rw (c .ends .ensures) (l .1)
 
 returns : tie.Need-returns
-returns c = rw (c .before .ends .ensures, c .before .before .starts .ensures) refl
+returns c = rw (c .before .ends .ensures, c .before .before .starts .ensures) (refl, refl)
 
 pub cut-spec : {M : Type 1} → statement M
 cut-spec =

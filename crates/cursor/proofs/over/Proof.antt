@@ -37,7 +37,7 @@ use denote.Triple.Table.{entered, cited}
 use denote.Triple.Walked.{says, needs, Stays, stay-none, walkOf, goes-none, Walks, ends-at, walked, walk-meets}
 use denote.Exit.{yes}
 use denote.Triple.Clauses.{ensured, lasts}
-use Rattle.cursor.specs.Told.{starts, bytesOf}
+use Rattle.cursor.specs.Told.{starts, bytesOf, further}
 use Rattle.cursor.specs.declared.Reader.{Reader}
 use Rattle.cursor.specs.declared.Part.{Part}
 use Rattle.cursor.proofs.Reader.Laws as T′
@@ -95,7 +95,7 @@ module _ {M : Type 1} (𝓤 : URA M) (H : Heap 𝓤) (A : Atoms 𝓤) (W : Given
       use2 W (raw (Cut 𝓤 H A mem run .pre to-cut)) (qed W ((‵ (flft κ q) ⊛ ‵ ftrue) ∷ ‵ (owns (ShrSlice (named 0) κ u8 ∷ P.the-row ∷ usize ∷ []) (d .src, (p, (n, tt))) (value (d .src) ∷ [], (pv ∷ [], (vint w64 n ∷ [], tt)))) ∷ []) ∵ says ! within $ frame ! $ done !) $ frame ! $ done !
 
   abbrev Bytes : RefT (List ℕ) → Type 0
-  Bytes t = now t ≡ bytesOf p n (now (d .src))
+  Bytes t = (now t ≡ bytesOf p n (now (d .src))) × (t .ptr ≡ further (d .src .ptr) (starts p n))
 
   cut-said : (t : RefT (List ℕ)) → ent 𝓤 (ensured 𝓤 H A cut.ended (cut.clauses 𝓤 H A mem run) (κ, tt) (d .src, (p, (n, tt))) tt t) (fact 𝓤 (Bytes t))
   cut-said t = exE 𝓤 _ (λ ws. snd∗ 𝓤 (sem 𝓤 H A (lasts cut.ended (κ, tt) (d .src, (p, (n, tt))) ws)) (fact 𝓤 (Bytes t)))
@@ -118,7 +118,7 @@ module _ {M : Type 1} (𝓤 : URA M) (H : Heap 𝓤) (A : Atoms 𝓤) (W : Given
   exits : (t : RefT (List ℕ)) (m : ℕ) (u : Val) → Bytes t → Place m → ent 𝓤 (⋆ 𝓤 H A (‵ (Own κ (record { src = t; at = m }) u) ∷ (‵ (flft κ q) ⊛ ‵ ftrue) ∷ ‵ (Own κ d mach) ∷ [])) (Post u)
   exits t m u e e′ =
       qed W (‵ (Own κ (record { src = t; at = m }) u) ∷ (‵ (flft κ q) ⊛ ‵ ftrue) ∷ ‵ (Own κ d mach) ∷ []) ∵
-      suffices ! _ (ends-at 𝓤 H A over.ended stayed (over.clauses 𝓤 H A mem run) W (((κ, tt), (q, tt), tt, (d, (p, (n, tt))), vals), tt) u (record { src = t; at = m }) (tt, (tt, (tt, tt))) (tt, (tt, (tt, tt)))) $ says ! (e, e′) $
+      suffices ! _ (ends-at 𝓤 H A over.ended stayed (over.clauses 𝓤 H A mem run) W (((κ, tt), (q, tt), tt, (d, (p, (n, tt))), vals), tt) u (record { src = t; at = m }) (tt, (tt, (tt, tt))) (tt, (tt, (tt, tt)))) $ says ! (e .0, e .1, e′) $
       move ! (1 ∷ []) $ frame ! $ nothing ! $ owned ! usize (Is usize) (uint-makes 𝓤 H A W w64) n _ (refl, n-fits) $ fjoin ! $ owned ! P.the-row (Is P.the-row) (EL.makes P.the-type P′.the-plain 𝓤 H A) p _ p-is $ fjoin ! $
       move ! (2 ∷ 0 ∷ []) $ fjoin ! $ frame ! $ done !
 
