@@ -3,6 +3,7 @@ use mathlib.Core.Path.{_≡_, sym, _∙_}
 use Rattle.rounding.proofs.ceil.Reads as ceil
 use Rattle.rounding.proofs.ceil_signed.Reads as ceil-signed
 use Rattle.rounding.proofs.line_down.Reads as line-down
+use Rattle.rounding.proofs.line_up.Reads as line-up
 use Rattle.rounding.proofs.table_up.Reads as table-up
 use Rattle.rounding.proofs.greatest_square.Reads as greatest-square
 
@@ -14,6 +15,9 @@ ceil-signed-one κs a r r′ s s′ p q = p ∙ sym q
 
 pub line-down-one : (κs a r r′ s s′ : _) → line-down.Post κs a r s → line-down.Post κs a r′ s′ → r ≡ r′
 line-down-one κs a r r′ s s′ p q = p ∙ sym q
+
+pub line-up-one : (κs a r r′ s s′ : _) → line-up.Post κs a r s → line-up.Post κs a r′ s′ → r ≡ r′
+line-up-one κs a r r′ s s′ p q = p ∙ sym q
 
 pub table-up-one : (κs a r r′ s s′ : _) → table-up.Post κs a r s → table-up.Post κs a r′ s′ → r ≡ r′
 table-up-one κs a r r′ s s′ p q = p ∙ sym q

@@ -42,7 +42,7 @@ pub fn line_down(x0: u64, v0: u64, x1: u64, v1: u64, x: u64) -> u64
 }
 
 // The straight line, rounded up.
-fn line_up(x0: u64, v0: u64, x1: u64, v1: u64, x: u64) -> u64
+pub fn line_up(x0: u64, v0: u64, x1: u64, v1: u64, x: u64) -> u64
     requires { ⌜ Between x0 v0 x1 v1 x ⌝ }
     ensures { λ r. ⌜ r ≡ line up (point x0 v0) (point x1 v1) x ⌝ }
 {
