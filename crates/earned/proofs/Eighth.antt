@@ -1,47 +1,25 @@
 -- Criterion 8 with nothing rounded between the tenths: b - a is the net, less the piece up to the exact start, plus the piece after e. Where y is nowhere below -lw2, neither piece favours the ship.
 use mathlib.Core.Path.{_≡_, refl, ap, sym, _∙_, subst}
 use mathlib.Core.Bool.{Bool, true, false}
-use Prim.Native.Nat.{ℕ, zero, suc, _+_, _-_, _*_, _/_, _%_, _^_, _≤_, _<_}
+use Prim.Native.Nat.{ℕ, zero, suc, _+_, _-_, _*_, _/_, _%_, _≤_, _<_}
 use native.Mathlib.Omega.{arith}
 use native.Mathlib.Nat.{mul-le-mul, mul-le-mul-left, le-of-mul-le-mul-left, mod-lt, div-add-mod}
 use native.Mathlib.Decide.{decLe}
 use lib.IntN.{ℤ, pos, negsuc, natAbs, +ℤ-comm, _+ℤ_, _-ℤ_, _*ℤ_}
 use lib.Signed.{leZ}
-use Rattle.rules.specs.Rounding.{ceil, sumZ}
+use Rattle.rules.specs.Rounding.{sumZ}
 use Rattle.rules.specs.Curve.{Loaded, lever, leverZ, y}
 use Rattle.rules.specs.Criteria.{lw1, lw2, units, phi0}
-use Rattle.rules.specs.Roll.{k, x1, x2, p, r, phi1, start, e, net, notJudged, noGust, passes8}
+use Rattle.rules.specs.Roll.{k, p, r, phi1, start, e, net, notJudged, noGust, passes8}
 use Rattle.rules.specs.Report.{verdict, pass, unjudged, fail, verdict8}
 use Rattle.rules.proofs.Signed.{up, dn, Le, Lt, eq!, at-least, abs-pos, add≡, diff≡, up-neg, dn-neg, up-mull, dn-mull}
-use Rattle.rules.proofs.Rounding.{ceil-is}
 use Rattle.rules.proofs.Divisions.{lw2-up}
-use Rattle.rules.proofs.Ranges.{k-range, x1-range, x2-range, s-range, Judged, judged, r-range, phi1-judged}
-use Rattle.rules.proofs.Roll.{product}
+use Rattle.rules.proofs.Ranges.{judged, phi1-from}
 use Rattle.rules.proofs.Angles.{u-is, e-is}
 use Rattle.earned.specs.Gust.{leverBy, yBy, unitsBy, phi0By, startBy, eBy, netBy, gusts, NowhereBelow}
 use Rattle.earned.proofs.Steps.{lee, between}
 use Rattle.earned.proofs.Grid.{over, cut, not-negative, not-positive, net-is, linear, Between, between-over, whole}
 use Rattle.earned.proofs.Finer.{heel-is, heel-to, start-before, end-beyond}
-
--- ---- where criterion 8 is judged, the roll is at least 6.4 degrees
-factor-from : (c : Loaded) → 420 ≤ p c
-unfolding p
-factor-from c = go (k c * x1 c) (x2 c) (mul-le-mul (k-range c .0) (x1-range c .0)) (x2-range c .0)
-  where
-    go : (m n : ℕ) → 560_000 ≤ m → 750 ≤ n → 420 ≤ ceil (ceil m 1000 * n) 1000
-    go m n h l =
-        let a : 560 ≤ ceil m 1000 = omega (arith, ceil-is m 1000 (omega arith) .over) in
-        omega (arith, ceil-is (ceil m 1000 * n) 1000 (omega arith) .over, mul-le-mul a l)
-
-pub roll-from : (c : Loaded) → Judged c → 64 ≤ phi1 c
-roll-from c j = elim (decLe 64 (phi1 c)) [
-  | yes h ↦ h
-  | no h ↦ let m : phi1 c ≤ 63 = omega arith in
-      absurd (omega (arith, phi1-judged c j .0 .hit, mul-le-mul (mul-le-mul-left (10 ^ 13) m) m, least))
-]
-  where
-    least : 1090 * 1090 * 420 * 420 * 550 * 350 ≤ product c
-    least = mul-le-mul (mul-le-mul (mul-le-mul (mul-le-mul-left (1090 * 1090) (factor-from c)) (factor-from c)) (r-range c j .1)) (s-range c .0)
 
 -- ---- 'Start = phi0 if y(phi0) = lw1, else phi0 - 1; less phi1', as bounds
 start-to : (c : Loaded) → up (start c) + phi1 c ≤ phi0 c + dn (start c)
@@ -143,7 +121,7 @@ module _ (q : ℕ) (some : 0 < q) (c : Loaded) (upright : y c (pos 0) ≡ pos 0)
   gusty = passed c verdict-is .1
 
   rolls : 64 ≤ phi1 c
-  rolls = roll-from c (judged c (passed c verdict-is .0))
+  rolls = phi1-from c (judged c (passed c verdict-is .0))
 
   net-from : Le (pos 0) (net c)
   unfolding passes8

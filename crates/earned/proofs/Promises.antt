@@ -22,7 +22,7 @@ use Rattle.rules.specs.Ranges.{Fair}
 use Rattle.rules.specs.Answer.{answered}
 use Rattle.rules.proofs.Signed.{Le, le-true, up-mull, dn-mull}
 use Rattle.rules.proofs.Fair.{fair}
-use Rattle.rules.proofs.Ranges.{judged}
+use Rattle.rules.proofs.Ranges.{judged, phi1-from}
 use Rattle.earned.specs.Order.{NoLess, Hull, finer, Better, curve, Follows}
 use Rattle.earned.specs.Verdicts.{Criterion, one, two, three, four, six, seven, passesOver, passesFifth, passes, place, used, Behind}
 use Rattle.earned.specs.Exact.{over, exact, Fractions}
@@ -101,7 +101,7 @@ limits-least = limits.limits-least
 -- ---- criterion 8
 -- Where it is judged the roll is at least 6.4 degrees.
 pub roll-from : (c : Loaded) → notJudged c ≡ false → 64 ≤ phi1 c
-roll-from c h = gust.roll-from c (judged c h)
+roll-from c h = phi1-from c (judged c h)
 
 -- A pass of criterion 8 is a pass of b - a summed at any parts of a tenth, where y lies nowhere below -lw2 from 0 to the reach of the windward side: with phi1 as used, or with any smaller roll.
 pub eighth-is-earned : (R : Reading) → Limits R → weighed R ≡ got tt → NowhereBelow (loaded R) → verdict8 (loaded R) ≡ pass → (q : ℕ) → 0 < q → (roll : ℕ) → 0 < roll → roll ≤ q * phi1 (loaded R) → Le (pos 0) (netBy q roll (loaded R))

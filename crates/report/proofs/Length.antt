@@ -1,6 +1,6 @@
 -- 'The report is one frame and LF, 209 characters', whatever it says: eight verdicts and eleven figures make a body of 0065 bytes.
 use Prim.Native.Nat.{ℕ, _*_}
-use mathlib.Core.Path.{_≡_, refl, _∙_}
+use mathlib.Core.Path.{_≡_, _∙_}
 use mathlib.Core.List.{List, [], _∷_, map}
 use native.Mathlib.Omega.{arith}
 use lib.IntN.{ℤ}
@@ -10,12 +10,8 @@ use Rattle.rules.specs.Text.{LF, hex}
 use Rattle.rules.specs.Blocks.{block}
 use Rattle.rules.specs.Report.{concat, reportTag, reportBody, reportLine, reportLength}
 use Rattle.rules.proofs.Numbers.{length-digits}
+use Rattle.rules.proofs.Lines.{length-hex}
 use Rattle.report.proofs.Parts.{concat-length}
-
-pub hex-length : (s : List ℕ) → length (hex s) ≡ 2 * length s
-unfolding hex
-hex-length [] = refl
-hex-length (b ∷ s) = omega (arith, hex-length s)
 
 module _ (number line offset : ℕ) (verdicts : List ℕ) (figures : List ℤ) (eight : length verdicts ≡ 8) (eleven : length figures ≡ 11) where
   pub body-length : length (reportBody number line offset verdicts figures) ≡ 0x65
@@ -32,4 +28,4 @@ module _ (number line offset : ℕ) (verdicts : List ℕ) (figures : List ℤ) (
   unfolding reportLine
   report-length =
       length-append (hex (block reportTag (reportBody number line offset verdicts figures))) (LF ∷ [])
-      ∙ omega (arith, hex-length (block reportTag (reportBody number line offset verdicts figures)), frame-length)
+      ∙ omega (arith, length-hex (block reportTag (reportBody number line offset verdicts figures)), frame-length)

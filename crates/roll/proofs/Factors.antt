@@ -4,7 +4,7 @@ use native.Mathlib.Omega.{arith}
 use native.Mathlib.Nat.{mul-le-mul}
 use Rattle.rules.specs.Rounding.{ceil}
 use Rattle.rules.specs.Curve.{Loaded}
-use Rattle.rules.specs.Roll.{k, x1, x2, p}
+use Rattle.rules.specs.Roll.{k, x1, x2}
 use Rattle.rules.proofs.Rounding.{ceil-is, ceiling-least}
 use Rattle.rules.proofs.Ranges.{k-range, x1-range, x2-range}
 
@@ -14,9 +14,3 @@ module _ (c : Loaded) where
 
   pub kxx-to : ceil (k c * x1 c) 1000 * x2 c ≤ 1_000_000
   kxx-to = mul-le-mul (ceiling-least (ceil-is (k c * x1 c) 1000 (omega arith)) 1000 kx-to) (x2-range c .1)
-
-  pub p-from : 420 ≤ p c
-  unfolding p
-  p-from =
-      let kx : 560 ≤ ceil (k c * x1 c) 1000 = omega (arith, ceil-is (k c * x1 c) 1000 (omega arith), mul-le-mul (k-range c .0) (x1-range c .0)) in
-      omega (arith, ceil-is (ceil (k c * x1 c) 1000 * x2 c) 1000 (omega arith), mul-le-mul kx (x2-range c .0))

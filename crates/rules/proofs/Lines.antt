@@ -6,6 +6,7 @@ use mathlib.Core.List.{List, [], _∷_, _++_}
 use Prim.Native.Nat.{ℕ, _+_, _-_, _*_, _/_, _%_, _<_}
 use native.Mathlib.Omega.{arith}
 use lib.Dec.{ltb, leb, eqb}
+use lib.ListN.{length}
 use borrow.Author.Tests.{ltb-true, ltb-false, leb-true, eqb-true, lt-ltb, le-ltb, le-leb, lt-leb, ne-eqb}
 use Rattle.rules.specs.Numbers.{Bytes}
 use Rattle.rules.specs.Text.{LF, digit, hex, text, Lines}
@@ -14,6 +15,12 @@ use Rattle.rules.specs.Walk.{nibble, unhex, Pieces, put, split, decode, 
 use Rattle.rules.specs.Met.{NoLF}
 use Rattle.rules.proofs.Answers.{refused-got, bind-inv, test-inv, bind-got, test-got}
 use Rattle.rules.proofs.Fields.{both-true}
+
+-- Two characters to a byte.
+pub length-hex : (s : List ℕ) → length (hex s) ≡ 2 * length s
+unfolding hex
+length-hex [] = refl
+length-hex (b ∷ s) = omega (arith, length-hex s)
 
 -- ---- digits
 nibble-sound : (ln c x : ℕ) → nibble ln c ≡ got x → (x < 16) × (digit x ≡ c)

@@ -4,6 +4,7 @@ use mathlib.Core.Bool.{Bool, true, false, _||_}
 use Prim.Native.Nat.{ℕ, _+_, _*_, _^_, _≤_, _<_}
 use native.Mathlib.Omega.{arith}
 use native.Mathlib.Nat.{mul-le-mul, mul-le-mul-left, div-mul-le-self, div-lt-iff-lt-mul}
+use native.Mathlib.Decide.{decLe}
 use lib.Dec.{leb, ltb, eqb}
 use lib.IntN.{ℤ, pos, negℤ, negsuc, subℕ, natAbs, _+ℤ_, _*ℤ_}
 use borrow.Author.Tests.{leb-false, ltb-false, lt-leb, le-ltb}
@@ -14,7 +15,7 @@ use Rattle.rules.proofs.Signed.{Le, add≡, sub≡, up-neg, dn-neg, up-
 use Rattle.rules.proofs.Rounding.{CeilingZ, ceil-is, ceiling-least, ceilZ-is, ceilingZ-least, ceilingZ-from}
 use Rattle.rules.proofs.Tables.{table-within, X1-is, X2-is, S-is}
 use Rattle.rules.proofs.Divisions.{x1-up, x2-up, s-up}
-use Rattle.rules.proofs.Roll.{Period, period-is, Roll, greatestRoll, phi1-is}
+use Rattle.rules.proofs.Roll.{Period, period-is, Roll, product, greatestRoll, phi1-is}
 
 -- ---- the factors, of any loading
 pub x1-range : (c : Loaded) → (800 ≤ x1 c) × (x1 c ≤ 1000)
@@ -40,6 +41,12 @@ p-range c = thousandth (ceil (k c * x1 c) 1000) (x2 c) (thousandth (k c) (x1 c) 
   where
     thousandth : (a b : ℕ) → a ≤ 1000 → b ≤ 1000 → ceil (a * b) 1000 ≤ 1000
     thousandth a b h l = ceiling-least (ceil-is (a * b) 1000 (omega arith)) 1000 (mul-le-mul h l)
+
+pub p-from : (c : Loaded) → 420 ≤ p c
+unfolding p
+p-from c =
+    let kx : 560 ≤ ceil (k c * x1 c) 1000 = omega (arith, ceil-is (k c * x1 c) 1000 (omega arith), mul-le-mul (k-range c .0) (x1-range c .0)) in
+    omega (arith, ceil-is (ceil (k c * x1 c) 1000 * x2 c) 1000 (omega arith), mul-le-mul kx (x2-range c .0))
 
 -- ---- where it is judged
 pub record Judged (c : Loaded) : Type 0 where
@@ -109,6 +116,17 @@ module _ (c : Loaded) (j : Judged c) where
 
   pub phi1-judged : Roll c (phi1 c) × (phi1 c ≤ greatestRoll)
   phi1-judged = phi1-is c (p-range c) (r-range .2) (s-range c .1)
+
+  -- The roll is at least 6.4 degrees.
+  pub product-from : 1090 * 1090 * 420 * 420 * 550 * 350 ≤ product c
+  product-from = mul-le-mul (mul-le-mul (mul-le-mul (mul-le-mul-left (1090 * 1090) (p-from c)) (p-from c)) (r-range .1)) (s-range c .0)
+
+  pub phi1-from : 64 ≤ phi1 c
+  phi1-from = elim (decLe 64 (phi1 c)) [
+    | yes h ↦ h
+    | no h ↦ let m : phi1 c ≤ 63 = omega arith in
+        absurd (omega (arith, phi1-judged .0 .hit, mul-le-mul (mul-le-mul-left (10 ^ 13) m) m, product-from))
+  ]
 
   -- ---- the way to the period, for a ship within its limits
   pub b-range : b c < 3500

@@ -13,7 +13,7 @@ use Rattle.rules.specs.Layout.{mostDepth, mostEntries, mostCharacters, l
 use Rattle.rules.specs.Answers.{Ans, refused, got, test, _>>=_, _>>_}
 use Rattle.rules.specs.Walk.{put, split, decode, linesFrom, Head, header, Block, one, nest, Walk, step, walk, entries, loadAt, inside, conditionIn, Frame, aRow, aCondition, Found, tableRow, theCondition, found, frameAt, after, tail, readFrames, read}
 use Rattle.rules.proofs.Answers.{refused-got, test-inv}
-use Rattle.rules.proofs.Lines.{lines-sound}
+use Rattle.rules.proofs.Lines.{length-hex, lines-sound}
 use Rattle.rules.proofs.Whole.{read-steps}
 use Rattle.rules.proofs.Refused.{Refusal, given, plain, weaker, bind-refusal, test-refusal, unhex-refusal, header-refusal, block-refusal, weather-refusal, frameOf-refusal, row-refusal, shipFrame-refusal, closed-refusal}
 
@@ -80,11 +80,6 @@ module _ (ln : ℕ) where
       bind-refusal _ _ (weaker (λ n l o x. omega arith) (frameOf-refusal ln (h .tag))) (λ t et. weaker (λ n l o x. omega arith) (found-within k p h t)))
 
 -- ---- lines: every line is shorter than the text, and there are no more lines than characters
-length-hex : (s : List ℕ) → length (hex s) ≡ 2 * length s
-unfolding hex
-length-hex [] = refl
-length-hex (b ∷ s) = omega (arith, length-hex s)
-
 length-text : (l : List ℕ) (ls : List (List ℕ)) → length (text (l ∷ ls)) ≡ 2 * length l + (1 + length (text ls))
 unfolding text
 length-text l ls = rw (length-append (hex l) (LF ∷ text ls), length-hex l) (omega arith)

@@ -5,7 +5,7 @@ use lib.Dec.{leb, ltb}
 use lib.IntN.{ℤ, pos, negsuc, subℕ}
 use lib.Signed.{leZ}
 use Rattle.rules.specs.Rounding.{ceil, firstIn, peak}
-use Rattle.rules.specs.Curve.{Loaded, lever, y, E, area}
+use Rattle.rules.specs.Curve.{Loaded, y, E, area}
 
 -- A set of criteria is its limits. Areas in y units: one metre-degree is 10^11, rounded up from 0.055, 0.03 and 0.09 m·rad.
 pub record Criteria : Type 0 where

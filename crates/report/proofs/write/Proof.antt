@@ -9,7 +9,7 @@ use Rattle.rules.specs.Text.{LF, hex}
 use Rattle.rules.specs.Blocks.{block}
 use Rattle.rules.specs.Report.{reportTag, reportBody, reportLine}
 use Rattle.report.proofs.Parts.{stored}
-use Rattle.report.proofs.Length.{hex-length}
+use Rattle.rules.proofs.Lines.{length-hex}
 use Rattle.report.proofs.write.Statement.{statement}
 use Rattle.report.proofs.write.Tie as tie
 
@@ -43,7 +43,7 @@ returns c =
     let b = block reportTag (reportBody (r .number) (r .line) (r .offset) (j .verdicts) (j .figures)) in
     let n : length b ≡ 104 = sym (ap length (f .put-frame .ensures)) ∙ f .put-frame .kept .0 in
     let e : p .put .last .0 ≡ hex b ++ drop 208 l = rw (f .put-frame .ensures, n) at (p .put .ensures) in
-    rw e (stored (hex b) l 208 LF (hex-length b ∙ omega arith) (omega (arith, s .pre)))
+    rw e (stored (hex b) l 208 LF (length-hex b ∙ omega arith) (omega (arith, s .pre)))
 
 pub write-spec : {M : Type 1} → statement M
 write-spec =

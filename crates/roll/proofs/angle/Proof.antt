@@ -9,10 +9,10 @@ use Rattle.rules.specs.Rounding.{up, table}
 use Rattle.rules.specs.Curve.{Loaded}
 use Rattle.rules.specs.Roll.{S, s, r, phi1}
 use Rattle.rules.proofs.Roll.{product}
-use Rattle.rules.proofs.Ranges.{p-range, judged, r-range}
+use Rattle.rules.proofs.Ranges.{p-range, judged, r-range, product-from}
 use Rattle.book.specs.Book.{loadedOf}
 use Rattle.roll.proofs.LeastSquare.{least-square}
-use Rattle.roll.proofs.Angles.{pp-to, ppr-to, product-to, product-from, angle-range}
+use Rattle.roll.proofs.Angles.{pp-to, ppr-to, product-to, angle-range}
 use borrow.Author.Needs.{needs}
 use Rattle.roll.proofs.angle.Statement.{statement}
 use Rattle.roll.proofs.angle.Tie as tie
@@ -55,7 +55,7 @@ mul-product-5 : tie.Need-mul-product-5
 mul-product-5 c = rw (c .before .before .factor .ensures, r-is (c .before), s-is c) (omega (arith, product-to _ (c .before .before .before .pre .1)))
 
 sub-greatest-square : tie.Need-sub-greatest-square
-sub-greatest-square c = rw (c .before .before .factor .ensures, r-is (c .before), s-is c) (omega (arith, product-from _ (c .before .before .before .pre .1)))
+sub-greatest-square c = rw (c .before .before .factor .ensures, r-is (c .before), s-is c) (omega (arith, product-from _ (judged _ (c .before .before .before .pre .1))))
 
 greatest-square-requires : tie.Need-greatest-square-requires
 greatest-square-requires c κs = search needs
@@ -66,7 +66,7 @@ found c =
     let t = c .before in
     let a = ship (t .before .before .before) in
     rw (c .greatest-square .ensures, t .before .before .factor .ensures, r-is (t .before), s-is t)
-    (least-square (10 ^ 13) (product a) (omega (arith, product-from a (t .before .before .before .pre .1))) 599)
+    (least-square (10 ^ 13) (product a) (omega (arith, product-from a (judged a (t .before .before .before .pre .1)))) 599)
 
 add-result : tie.Need-add-result
 add-result c = omega (arith, found c, angle-range _ (c .before .before .before .before .pre .1))
