@@ -7,11 +7,11 @@ use native.Mathlib.Omega.{arith}
 use lib.ListN.{length, getD}
 use lib.Dec.{ltb}
 use borrow.Author.Tests.{ltb-true, ltb-false}
-use Rattle.rules.specs.Answers.{refused, got}
+use Rattle.rules.specs.Outcome.{refused, got}
 use Rattle.rules.specs.Walk.{header}
 use Rattle.rules.specs.Parts.{be2, part, headAt}
-use Rattle.rules.proofs.Parts.{length-part, header-short, header-over, header-block}
-use Rattle.blocks.specs.Told.{begunOf}
+use Rattle.rules.proofs.layout.Parts.{length-part, header-short, header-over, header-block}
+use Rattle.blocks.specs.BlockAnswers.{begunOf}
 use Rattle.blocks.specs.declared.Begun.{Begun}
 use Rattle.blocks.specs.declared.Begun.the-variants.{Block, Short}
 

@@ -8,12 +8,13 @@ use lib.ListN.{length}
 use lib.Dec.{ltb}
 use borrow.Author.Tests.{lt-ltb, le-ltb, ne-eqb}
 use Rattle.rules.specs.Blocks.{size, values, ok, Load, item, tank, Values, entry, groupTag}
-use Rattle.rules.specs.Answers.{Ans, refused, got, _>>=_}
+use Rattle.rules.specs.Outcome.{Ans, refused, got, _>>=_}
 use Rattle.rules.specs.Walk.{fixed, load, nested, tagOf, one, begun, blockAt}
-use Rattle.rules.proofs.Answers.{bind-got, bind-refused}
-use Rattle.rules.proofs.Ways.{fixed-length, fixed-full, fixed-outside, fixed-within}
+use Rattle.rules.proofs.walk.Outcome.{bind-got, bind-refused}
+use Rattle.rules.proofs.walk.BlockExits.{fixed-length, fixed-full, fixed-outside, fixed-within}
 use Rattle.book.specs.declared.Sums.{Sums}
-use Rattle.blocks.specs.Told.{refusal, sumsOfOne, heldOf, leafOf, blockOf}
+use Rattle.book.specs.Book.{refusal}
+use Rattle.blocks.specs.BlockAnswers.{sumsOfOne, heldOf, leafOf, blockOf}
 use Rattle.blocks.specs.declared.entries.Held.{Held}
 use Rattle.blocks.specs.declared.entries.Held.the-variants.{Within, Outside}
 use Rattle.blocks.specs.declared.entries.Block.the-variants as block

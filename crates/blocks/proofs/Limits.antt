@@ -7,7 +7,7 @@ use native.Mathlib.Omega.{arith}
 use lib.ListN.{replicate}
 use lib.Dec.{ltb, leb, eqb}
 use Rattle.rules.specs.Blocks.{field, within, ok, ship, row, weather, item, tank, entry}
-use Rattle.rules.proofs.Fields.{both-true, Limited, limited}
+use Rattle.rules.proofs.layout.Fields.{both-true, Limited, limited}
 
 abbrev pub fit : ℕ → ℕ → ℕ → Bool
 fit x low high = leb low x && leb x high

@@ -10,7 +10,7 @@ use lib.Seq.{drop-cons}
 use borrow.Author.Tests.{le-leb, lt-leb}
 use Rattle.rules.specs.Blocks.{Field, field, within, values, row}
 use Rattle.rules.specs.Parts.{be2, valuesAt}
-use Rattle.rules.proofs.Parts.{num-two, values-at}
+use Rattle.rules.proofs.layout.Parts.{num-two, values-at}
 use Rattle.blocks.proofs.Limits.{fit}
 
 abbrev lever : Field

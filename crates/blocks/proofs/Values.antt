@@ -6,7 +6,7 @@ use native.Mathlib.Omega.{arith}
 use lib.ListN.{length, getD}
 use Rattle.rules.specs.Blocks.{values, ship, row, weather, item, tank, entry}
 use Rattle.rules.specs.Parts.{be2, be4, valuesAt}
-use Rattle.rules.proofs.Parts.{num-one, num-two, num-four, values-at}
+use Rattle.rules.proofs.layout.Parts.{num-one, num-two, num-four, values-at}
 
 module _ (s : List ℕ) where
   pub item-values : length s ≡ 6 → entry item .named (values (entry item .fields) s) ≡ record { mass = be4 s 0; centre = be2 s 4 }

@@ -6,13 +6,13 @@ ghost use lib.Dec.{ltb};
 ghost use Rattle.rules.specs.Blocks.{size, values, ok, item, tank, entry};
 ghost use Rattle.rules.specs.Loading.{freeSurfaceOf};
 ghost use Rattle.rules.specs.Walk.{fixed, nested, begun, blockAt};
-ghost use Rattle.blocks.specs.Told.{loadOf, itemOf, tankOf, heldOf, leafOf, blockOf};
-use crate::numbers::both;
-use crate::numbers::either;
-use crate::numbers::fits;
-use crate::numbers::u16_at;
-use crate::numbers::u32_at;
+ghost use Rattle.blocks.specs.BlockAnswers.{loadOf, itemOf, tankOf, heldOf, leafOf, blockOf};
 use crate::refusal;
+use numbers::both;
+use numbers::either;
+use numbers::fits;
+use numbers::u16_at;
+use numbers::u32_at;
 
 // The kinds of entry.
 pub enum Kind {

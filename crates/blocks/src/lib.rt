@@ -1,14 +1,14 @@
 // Blocks: how a block begins, and the blocks of fixed size. Each answers with its values by name, or with the refusal and its place:
 // 'at each block 2, 4, 3, 5, 6'.
 pub mod entries;
-mod numbers;
 pub mod row;
 pub mod ship;
 pub mod weather;
 
 ghost use mathlib.Core.Path.{_≡_};
 ghost use Rattle.rules.specs.Walk.{header};
-ghost use Rattle.blocks.specs.Told.{refusal, begunOf};
+ghost use Rattle.book.specs.Book.{refusal};
+ghost use Rattle.blocks.specs.BlockAnswers.{begunOf};
 use numbers::u16_at;
 
 // The tag and the length of the body, which lies inside the parent; or 2.

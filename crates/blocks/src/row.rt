@@ -4,16 +4,16 @@ ghost use mathlib.Core.List.{_∷_};
 ghost use Prim.Native.Nat.{_+_, _≤_};
 ghost use lib.ListN.{length, replicate};
 ghost use Rattle.rules.specs.Blocks.{field, within, values, ok, row};
-ghost use Rattle.rules.specs.Answers.{refused};
+ghost use Rattle.rules.specs.Outcome.{refused};
 ghost use Rattle.rules.specs.Walk.{rowIn};
 ghost use Rattle.rules.specs.Parts.{headAt};
 ghost use Rattle.book.specs.Book.{rowOf, blankRow};
-ghost use Rattle.blocks.specs.Told.{rowRead};
-use crate::numbers::both;
-use crate::numbers::fits;
-use crate::numbers::u16_at;
-use crate::numbers::u32_at;
+ghost use Rattle.blocks.specs.BlockAnswers.{rowRead};
 use crate::refusal;
+use numbers::both;
+use numbers::fits;
+use numbers::u16_at;
+use numbers::u32_at;
 
 pub enum RowAnswer {
     Within,

@@ -6,14 +6,14 @@ ghost use Rattle.rules.specs.Blocks.{values, ok, ship};
 ghost use Rattle.rules.specs.Walk.{fixedIn, shipFrame};
 ghost use Rattle.rules.specs.Parts.{headAt};
 ghost use Rattle.book.specs.Book.{shipOf};
-ghost use Rattle.blocks.specs.Told.{shipRead};
+ghost use Rattle.blocks.specs.BlockAnswers.{shipRead};
 use crate::Begun;
 use crate::header;
-use crate::numbers::both;
-use crate::numbers::fits;
-use crate::numbers::u32_at;
-use crate::numbers::wide;
 use crate::refusal;
+use numbers::both;
+use numbers::fits;
+use numbers::u32_at;
+use numbers::wide;
 
 pub enum ShipRead {
     Within(book::Ship),

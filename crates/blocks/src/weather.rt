@@ -4,12 +4,12 @@ ghost use lib.ListN.{length};
 ghost use Rattle.rules.specs.Blocks.{values, ok, weather};
 ghost use Rattle.rules.specs.Walk.{weatherAt};
 ghost use Rattle.book.specs.Book.{weatherOf};
-ghost use Rattle.blocks.specs.Told.{weatherRead};
-use crate::numbers::both;
-use crate::numbers::fits;
-use crate::numbers::u16_at;
-use crate::numbers::u32_at;
+ghost use Rattle.blocks.specs.BlockAnswers.{weatherRead};
 use crate::refusal;
+use numbers::both;
+use numbers::fits;
+use numbers::u16_at;
+use numbers::u32_at;
 
 pub enum WeatherRead {
     Within(book::Weather),

@@ -1,14 +1,14 @@
 -- What the plain data says, as the rules say it.
 use mathlib.Core.Path.{_≡_}
 use mathlib.Core.List.{List, map, _++_}
-use Prim.Native.Nat.{_-_}
+use Prim.Native.Nat.{ℕ, _-_}
 use lib.ListN.{length, replicate, take}
 use Rattle.rules.specs.Blocks as rules
 use Rattle.rules.specs.Layout.{Entries}
 use Rattle.rules.specs.Loading.{flat, total, mass, moment, freeSurface}
 use Rattle.rules.specs.Curve as curve
 use Rattle.rules.specs.Report as report
-use Rattle.rules.specs.Answers.{Ans, refused}
+use Rattle.rules.specs.Outcome.{Ans, refused}
 use Rattle.book.specs.declared.Ship.{Ship}
 use Rattle.book.specs.declared.Row.{Row}
 use Rattle.book.specs.declared.Table.{Table}
@@ -21,11 +21,19 @@ use Rattle.book.specs.declared.Judgement.{Judgement}
 abbrev pub shipOf : Ship → rules.Ship
 shipOf s = record { hullLength = s .length; breadth = s .breadth; keelArea = s .keel; bilge = s .bilge }
 
+-- A ship as plain data.
+abbrev pub plainShip : rules.Ship → Ship
+plainShip s = record { length = s .hullLength; breadth = s .breadth; keel = s .keelArea; bilge = s .bilge }
+
 abbrev pub rowOf : Row → rules.Row
 rowOf r = record { mass = r .mass; draught = r .draught; km = r .km; kn = r .kn }
 
 abbrev pub weatherOf : Weather → rules.Weather
 weatherOf w = record { windArea = w .wind; z = w .z; cb = w .cb; flooding = w .flooding; deckEdge = w .deck }
+
+-- The weather as plain data.
+abbrev pub plainWeather : rules.Weather → Weather
+plainWeather w = record { wind = w .windArea; z = w .z; cb = w .cb; flooding = w .flooding; deck = w .deckEdge }
 
 -- The rows of a table.
 unfoldable pub rowsOf : Table → List rules.Row
@@ -52,6 +60,10 @@ loadedOf c = record { ship = shipOf (c .ship); weather = weatherOf (c .weather);
 -- A judgement as plain data: each verdict by its number.
 abbrev pub judgementOf : report.Judgement → Judgement
 judgementOf j = record { verdicts = map report.verdictNumber (j .verdicts); figures = j .figures }
+
+-- A refusal as plain data.
+abbrev pub refusal : ℕ → ℕ → ℕ → Refusal
+refusal n l o = record { number = n; line = l; offset = o }
 
 -- An answer that ends in this refusal.
 abbrev pub Refuses : {A : Type 0} → Ans A → Refusal → Type 0

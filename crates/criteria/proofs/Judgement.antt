@@ -11,8 +11,8 @@ use Rattle.rules.specs.Curve.{Loaded, E}
 use Rattle.rules.specs.Criteria.{code, area1, area2, area3, greatestLever, angleOfGreatest, gm, phi0Figure, passes1, passes2, passes3, passes4, passes5, passes6, passes7}
 use Rattle.rules.specs.Roll.{phi1, net, notJudged, noGust, passes8}
 use Rattle.rules.specs.Report.{fail, unjudged, verdict, verdictNumber, verdict8, where8, judgement}
-use Rattle.rules.proofs.Angles.{greatest-none}
-use Rattle.rules.proofs.Verdicts.{criterion4, criterion4-short}
+use Rattle.rules.proofs.criteria.Angles.{greatest-none}
+use Rattle.rules.proofs.criteria.Verdicts.{criterion4, criterion4-short}
 use Rattle.gust.specs.declared.Gust.the-variants.{NotJudged, Failed, Net}
 use Rattle.gust.specs.Gusts.{gustOf}
 use Rattle.criteria.specs.Figures.{eighthOf}

@@ -10,7 +10,7 @@ use Rattle.rules.specs.Rounding.{peak}
 use Rattle.rules.specs.Curve.{Loaded, y, E, area}
 use Rattle.rules.specs.Criteria.{area1, area2, area3, greatestLever}
 use Rattle.rules.specs.Ranges.{Fair}
-use Rattle.rules.proofs.Areas.{area-empty}
+use Rattle.rules.proofs.loading.Areas.{area-empty}
 use Rattle.curve.specs.Levers.{upTo}
 use Rattle.curve.proofs.Areas.{leeward}
 use Rattle.gust.proofs.Machine.{abs-minus}

@@ -4,16 +4,17 @@ use mathlib.Core.List.{List}
 use Prim.Native.Nat.{ℕ, _+_, _≤_}
 use native.Mathlib.Omega.{arith}
 use lib.ListN.{length}
-use Rattle.rules.specs.Answers.{refused, got}
+use Rattle.rules.specs.Outcome.{refused, got}
 use Rattle.rules.specs.Walk.{header}
 use Rattle.rules.specs.Parts.{part, headAt}
-use Rattle.rules.proofs.Parts.{length-part}
-use Rattle.blocks.specs.Told.{refusal, begunOf}
+use Rattle.rules.proofs.layout.Parts.{length-part}
+use Rattle.book.specs.Book.{refusal}
+use Rattle.blocks.specs.BlockAnswers.{begunOf}
 use Rattle.blocks.specs.declared.Begun.{Begun}
 use Rattle.blocks.specs.declared.Begun.the-variants as begun
 use Rattle.blocks.proofs.Heads.{head-short, head-block}
 use Rattle.book.specs.declared.Refusal.{Refusal}
-use Rattle.cursor.specs.Told.{headOf}
+use Rattle.cursor.specs.BlockParts.{headOf}
 use Rattle.cursor.specs.declared.Head.{Head}
 use Rattle.cursor.specs.declared.Head.the-variants.{Block, Refused}
 

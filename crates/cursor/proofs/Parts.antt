@@ -1,7 +1,7 @@
 -- The parts of a block that lies inside its parent lie inside it too.
 use Prim.Native.Nat.{ℕ, _+_, _≤_}
 use native.Mathlib.Omega.{arith}
-use Rattle.cursor.specs.Told.{starts, ends}
+use Rattle.cursor.specs.BlockParts.{starts, ends}
 use Rattle.cursor.specs.declared.Part.{Part}
 use Rattle.cursor.specs.declared.Part.the-variants.{Body, Rest}
 

@@ -4,7 +4,7 @@ ghost use mathlib.Core.Path.{_≡_};
 ghost use Prim.Native.Nat.{_+_, _≤_, _<_, _^_};
 ghost use lib.ListN.{length};
 ghost use Rattle.rules.specs.Walk.{header};
-ghost use Rattle.cursor.specs.Told.{starts, ends, bytesOf, further, headOf};
+ghost use Rattle.cursor.specs.BlockParts.{starts, ends, bytesOf, further, headOf};
 
 // A block that lies inside its parent, or 2 with its place.
 pub enum Head {

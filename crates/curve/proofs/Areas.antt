@@ -4,8 +4,8 @@ use Prim.Native.Nat.{ℕ, zero, suc, _+_, _≤_}
 use native.Mathlib.Omega.{arith}
 use lib.IntN.{ℤ, pos, negsuc, negℤ, _+ℤ_, _-ℤ_, +ℤ-assoc, +ℤ-comm, +ℤ-idl, +ℤ-idr}
 use Rattle.rules.specs.Curve.{area}
-use Rattle.rules.proofs.Signed.{up, dn, Le, Lt, eq!, add≡, diff≡, up-neg, dn-neg}
-use Rattle.rules.proofs.Areas.{area-empty, area-step}
+use Rattle.rules.proofs.rounding.Signed.{up, dn, Le, Lt, eq!, add≡, diff≡, up-neg, dn-neg}
+use Rattle.rules.proofs.loading.Areas.{area-empty, area-step}
 use Rattle.curve.specs.Levers.{upTo}
 
 -- A curve that is its own mirror.

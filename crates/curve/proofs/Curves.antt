@@ -13,9 +13,9 @@ use Rattle.rules.specs.Criteria.{reaches}
 use Rattle.rules.specs.Roll.{stays}
 use Rattle.rules.specs.Ranges.{Fair, rowAt}
 use Rattle.rules.specs.Blocks.{row, weather}
-use Rattle.rules.proofs.Fields.{ok-at}
-use Rattle.rules.proofs.Signed.{eq!, sub≡}
-use Rattle.rules.proofs.Searches.{peak-is}
+use Rattle.rules.proofs.layout.Fields.{ok-at}
+use Rattle.rules.proofs.rounding.Signed.{eq!, sub≡}
+use Rattle.rules.proofs.rounding.Searches.{peak-is}
 use Rattle.curve.specs.Levers.{Sized, Holds, held, upTo}
 use Rattle.curve.proofs.Limits.{kn-small}
 use Rattle.curve.proofs.Areas.{Odd, upTo-same, leeward, windward}

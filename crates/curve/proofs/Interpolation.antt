@@ -10,9 +10,9 @@ use Rattle.rules.specs.Rounding.{down, Point, point, span, gap, line}
 use Rattle.rules.specs.Layout.{Rising}
 use Rattle.rules.specs.Blocks as rules
 use Rattle.rules.specs.Curve as curve
-use Rattle.rules.proofs.Rounding.{rounded-unique}
-use Rattle.rules.proofs.StraightLine.{line-rounded}
-use Rattle.rules.proofs.Rows.{column, between-is}
+use Rattle.rules.proofs.rounding.Rounding.{rounded-unique}
+use Rattle.rules.proofs.rounding.StraightLine.{line-rounded}
+use Rattle.rules.proofs.loading.Rows.{column, between-is}
 use Rattle.rounding.specs.Points.{Between}
 use Rattle.book.specs.Book.{shipOf, rowOf, weatherOf, rowsOf, loadedOf}
 use Rattle.book.specs.declared.Row.{Row}
@@ -90,18 +90,23 @@ module _ (t : Table) (whole : Whole t) (w i : ℕ) (around : Around t w i) where
     to = around .to;
   }
 
-  between-rows : (f : rules.Row → ℕ) → curve.between (rowsOf t) f w ≡ between (rowAt t (i - 1)) (rowAt t i) f w
+  -- The straight line between the two rows is the rules' own; so is the KN at W.
+  pub between-rows : (f : rules.Row → ℕ) → curve.between (rowsOf t) f w ≡ between (rowAt t (i - 1)) (rowAt t i) f w
   between-rows f =
       line-of (rowsOf t) (rowOf noRow) (i - 1) (omega (arith, fewer, before)) f 0 w (whole .rising)
       (omega (arith, around .from, ap (λ (r : rules.Row). r .mass) first-row))
       (omega (arith, around .to, ap (λ (r : rules.Row). r .mass) second-row))
       ∙ rw (first-row, second-row)
 
+  pub kn-rows : curve.knAt (rowsOf t) w ≡ knBetween (rowAt t (i - 1)) (rowAt t i) w
+  unfolding curve.knAt
+  kn-rows = λ l. map (λ s. between-rows (λ r. getD (r .kn) s 0) l) curve.stations
+
   -- 'd, KM and each KN.'
   pub loaded-is : (ship : Ship) (weather : Weather) (kg d m : ℕ) (kn : List ℕ) → d ≡ between (rowAt t (i - 1)) (rowAt t i) (λ r. r .draught) w → m ≡ between (rowAt t (i - 1)) (rowAt t i) (λ r. r .km) w
       → kn ≡ knBetween (rowAt t (i - 1)) (rowAt t i) w
       → loadedOf (record { ship = ship; weather = weather; w = w; kg = kg; draught = d; km = m; kn = kn }) ≡ curve.loadedAt (shipOf ship) (rowsOf t) (weatherOf weather) w kg
-  unfolding curve.loadedAt curve.knAt
+  unfolding curve.loadedAt
   loaded-is ship weather kg d m kn ed em ek = λ j. record {
     ship = shipOf ship;
     weather = weatherOf weather;
@@ -109,5 +114,5 @@ module _ (t : Table) (whole : Whole t) (w i : ℕ) (around : Around t w i) where
     kg = kg;
     draught = (ed ∙ sym (between-rows (λ r. r .draught))) j;
     km = (em ∙ sym (between-rows (λ r. r .km))) j;
-    kn = (ek ∙ sym (λ l. map (λ s. between-rows (λ r. getD (r .kn) s 0) l) curve.stations)) j;
+    kn = (ek ∙ sym kn-rows) j;
   }

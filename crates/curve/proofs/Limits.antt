@@ -8,7 +8,7 @@ use lib.Dec.{T, leb, leb→le}
 use lib.ListN.{getD, drop}
 use mir.Facts.{and-yes}
 use Rattle.rules.specs.Blocks.{Field, ok, Row, row}
-use Rattle.rules.proofs.Fields.{fieldAt, ok-at}
+use Rattle.rules.proofs.layout.Fields.{fieldAt, ok-at}
 
 abbrev lower : ℕ → List Field → Bool
 lower n [] = true

@@ -9,7 +9,7 @@ use borrow.Author.Tests.{leb-true, le-ltb}
 use mir.Syntax.{w64}
 use mir.Val.{SFits, toZ, ofZ}
 use mir.Facts.{toZ-ofZ, toZ-pos}
-use Rattle.rules.proofs.Signed.{sub-is}
+use Rattle.rules.proofs.rounding.Signed.{sub-is}
 use Rattle.curve.proofs.Sizes.{abs-difference, mag-abs}
 
 pub back : (z : ℤ) → mag z < 2 ^ 63 → toZ w64 (ofZ w64 z) ≡ z

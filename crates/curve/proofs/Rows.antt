@@ -11,7 +11,7 @@ use borrow.Author.Tests.{leb-true}
 use Rattle.rules.specs.Layout.{Rising}
 use Rattle.rules.specs.Loading.{firstMass, lastMass, inTable}
 use Rattle.rules.specs.Blocks as rules
-use Rattle.rules.proofs.Fields.{both-true}
+use Rattle.rules.proofs.layout.Fields.{both-true}
 use Rattle.book.specs.Book.{rowOf, rowsOf}
 use Rattle.book.specs.declared.Table.{Table}
 use Rattle.curve.specs.Weighing.{Whole}

@@ -11,7 +11,7 @@ use lib.IntN.{ℤ, pos, negsuc, subℕ, natAbs, _+ℤ_, _*ℤ_}
 use lib.Signed.{mag}
 use mir.Facts.{and-yes}
 use Rattle.rules.specs.Curve.{sines, lever}
-use Rattle.rules.proofs.Signed.{up, dn, up-add, dn-add, up-mull, dn-mull, up-sub, dn-sub, mag-le}
+use Rattle.rules.proofs.rounding.Signed.{up, dn, up-add, dn-add, up-mull, dn-mull, up-sub, dn-sub, mag-le}
 use Rattle.curve.specs.Levers.{Sized, Within, mostG, mostY, g, leversOf, straight, Holds, held, upTo}
 use Rattle.curve.proofs.Areas.{upTo-none, upTo-more}
 use Rattle.curve.proofs.Filling.{at-station}

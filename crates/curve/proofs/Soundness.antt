@@ -9,13 +9,13 @@ use lib.Dec.{leb, ltb}
 use lib.ListN.{length, length-append, length-map, length-replicate}
 use lib.Seq.{take-at}
 use Rattle.rules.specs.Layout.{Entries, end, leaf, group, Good, leaves, Reading, Limits}
-use Rattle.rules.specs.Answers.{got, test}
+use Rattle.rules.specs.Outcome.{got, test}
 use Rattle.rules.specs.Loading.{Entry, flat, total, mass, moment, freeSurface, nominallyFull, inTable, displacement, correctedKG, greatestKG, entriesOf, weighed}
 use Rattle.rules.specs.Curve.{loadedAt, loaded}
 use Rattle.rules.specs.Blocks as rules
-use Rattle.rules.proofs.Fields.{ok-at}
-use Rattle.rules.proofs.Answers.{test-inv}
-use Rattle.rules.proofs.Sums.{total-append}
+use Rattle.rules.proofs.layout.Fields.{ok-at}
+use Rattle.rules.proofs.walk.Outcome.{test-inv}
+use Rattle.rules.proofs.loading.Sums.{total-append}
 use Rattle.book.specs.Book.{rowOf, rowsOf, plainRow, tableOf, sumsOf}
 use Rattle.curve.specs.Weighing.{Whole, Sound, weighedOf, Weighs}
 use Rattle.curve.proofs.Weighing.{weighs}
@@ -76,7 +76,7 @@ sound r l =
     let m = l .loaded .many in
     record {
       whole = whole r l;
-      light = record {
+      machine = record {
         mass = omega (arith, most mass 600_000_000 masses F g m);
         moments = omega (arith, most moment (600_000_000 * 60_000) moments F g m, most freeSurface (1000 * 2_000 * 100_000) surfaces F g m);
       };

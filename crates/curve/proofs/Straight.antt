@@ -8,7 +8,7 @@ use native.Mathlib.Nat.{eq-or-lt-of-le}
 use lib.ListN.{getD}
 use lib.IntN.{ℤ, pos, _+ℤ_, _*ℤ_, zero-*ℤ, +ℤ-idl, +ℤ-idr}
 use Rattle.rules.specs.Curve.{lever}
-use Rattle.rules.proofs.Levers.{lever-straight}
+use Rattle.rules.proofs.loading.Levers.{lever-straight}
 use Rattle.curve.specs.Levers.{g, leversOf, straight, Holds}
 use Rattle.curve.proofs.Filling.{at-station}
 

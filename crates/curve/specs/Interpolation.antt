@@ -33,7 +33,7 @@ pub record Neighbours (a b : Row) (w : ℕ) : Type 0 where
   pub from : a .mass ≤ w
   pub to : w ≤ b .mass
 
--- 'Linearly between the two rows around W, rounded down.'
+-- The straight line between two rows, and the KN on it. Of the two rows around W they are the rules' `between` and `knAt`: `between-rows` and `kn-rows` in proofs/Interpolation.
 abbrev pub between : Row → Row → (rules.Row → ℕ) → ℕ → ℕ
 between a b f w = line down (point (a .mass) (f (rowOf a))) (point (b .mass) (f (rowOf b))) w
 

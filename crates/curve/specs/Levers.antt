@@ -29,7 +29,7 @@ g kn kg i = subℕ (100000 * getD kn i 0) (kg * getD sines i 0)
 abbrev pub leversOf : List ℕ → ℕ → List ℤ
 leversOf kn kg = map (g kn kg) stations
 
--- '50 times the straight-line value of g.'
+-- '50 times the straight-line value of g.' Of the levers above it is the rules' `lever`: `straight-lever` in proofs/Straight.
 unfoldable pub straight : List ℤ → ℕ → ℤ
 straight gs t = pos (50 - t % 50) *ℤ getD gs (t / 50) (pos 0) +ℤ pos (t % 50) *ℤ getD gs (t / 50 + 1) (pos 0)
 

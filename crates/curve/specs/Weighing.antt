@@ -1,19 +1,15 @@
 -- Loading: W and the corrected KG, or 7 or 8; and what makes a table and sums fit for it.
 use mathlib.Core.Path.{_≡_}
-use mathlib.Core.Bool.{cond}
 use mathlib.Core.List.{List}
 use Prim.Native.Nat.{ℕ, _+_, _^_, _≤_}
-use lib.Dec.{leb}
 use lib.ListN.{length}
-use Rattle.rules.specs.Rounding.{ceil}
 use Rattle.rules.specs.Blocks.{Row}
 use Rattle.rules.specs.Layout.{Rising, Reading, fewestRows, mostRows}
-use Rattle.rules.specs.Answers.{got}
-use Rattle.rules.specs.Loading.{inTable, greatestKG, weighed, displacement, correctedKG, entriesOf}
-use Rattle.book.specs.Book.{rowsOf, Refuses}
+use Rattle.rules.specs.Outcome.{Ans, refused, got}
+use Rattle.rules.specs.Loading.{kgBy, weighedAt, weighed, displacement, correctedKG, entriesOf}
+use Rattle.book.specs.Book.{rowsOf, refusal, Refuses}
 use Rattle.book.specs.declared.Table.{Table}
 use Rattle.book.specs.declared.Sums.{Sums}
-use Rattle.book.specs.declared.Refusal.{Refusal}
 use Rattle.curve.specs.declared.loading.Weighed.{Weighed}
 use Rattle.curve.specs.declared.loading.Weighed.the-variants.{Fine, Refused}
 
@@ -25,25 +21,25 @@ pub record Whole (t : Table) : Type 0 where
   pub rising : Rising 0 (rowsOf t)
 
 -- Sums that the machine can add and divide.
-pub record Light (s : Sums) : Type 0 where
+pub record InMachine (s : Sums) : Type 0 where
   pub mass : s .mass ≤ 10 ^ 12
   pub moments : s .moment + s .free ≤ 10 ^ 16
 
 pub record Sound (s : Sums) (t : Table) : Type 0 where
   pub whole : Whole t
-  pub light : Light s
+  pub machine : InMachine s
 
--- 'For 7, 8 and 9 both are 0.'
-abbrev pub refusal : ℕ → Refusal
-refusal n = record { number = n; line = 0; offset = 0 }
-
--- 'KG = (sum of mass x centre + free surface moments) / W, rounded up.'
+-- The corrected KG of the sums, by the rules.
 abbrev pub kgOf : Sums → ℕ
-kgOf s = ceil (s .moment + s .free) (s .mass)
+kgOf s = kgBy (s .moment + s .free) (s .mass)
 
--- '.. then 7; then 8.'
+-- What the code answers of the sums, from what the rules answer: W and KG, or the refusal.
+abbrev pub weight : ℕ → ℕ → Ans (Unit {0}) → Weighed
+weight w kg (refused n l o) = Refused (refusal n l o)
+weight w kg (got tt) = Fine w kg
+
 unfoldable pub weighedOf : List Row → Sums → Weighed
-weighedOf rows s = cond (inTable rows (s .mass)) (cond (leb (kgOf s) greatestKG) (Fine (s .mass) (kgOf s)) (Refused (refusal 8))) (Refused (refusal 7))
+weighedOf rows s = weight (s .mass) (kgOf s) (weighedAt rows (s .mass) (kgOf s))
 
 -- What an answer says of a reading.
 abbrev pub Weighs : Reading → Weighed → Type 0

@@ -2,8 +2,8 @@
 ghost use mathlib.Core.Path.{_≡_};
 ghost use Prim.Native.Nat.{_<_};
 ghost use Rattle.rules.specs.Loading.{inTable};
-ghost use Rattle.book.specs.Book.{rowsOf};
-ghost use Rattle.curve.specs.Weighing.{Whole, Light, Sound, refusal, kgOf, weighedOf};
+ghost use Rattle.book.specs.Book.{rowsOf, refusal};
+ghost use Rattle.curve.specs.Weighing.{Whole, InMachine, Sound, kgOf, weighedOf};
 use book::Refusal;
 use book::Sums;
 use book::Table;
@@ -19,7 +19,7 @@ pub enum Weighed {
 
 // A refusal that has no place in the text.
 fn refused(number: u8) -> Weighed
-    ensures { λ r. ⌜ r ≡ Weighed.Refused (refusal number) ⌝ }
+    ensures { λ r. ⌜ r ≡ Weighed.Refused (refusal number 0 0) ⌝ }
 {
     Weighed::Refused(Refusal {
         number,
@@ -41,7 +41,7 @@ fn in_table(table: Table, w: u64) -> bool
 
 // 'KG = (sum of mass x centre + free surface moments) / W, rounded up.'
 fn corrected_kg(sums: Sums) -> u64
-    requires { ⌜ (0 < sums .mass) × Light sums ⌝ }
+    requires { ⌜ (0 < sums .mass) × InMachine sums ⌝ }
     ensures { λ r. ⌜ r ≡ kgOf sums ⌝ }
 {
     rounding::ceil(sums.moment + sums.free, sums.mass)

@@ -31,7 +31,8 @@ fn around(table: Table, w: u64) -> usize
     i
 }
 
-fn wide(x: u16) -> u64
+// A KN of a row, in millimetres.
+fn millimetres(x: u16) -> u64
     ensures { λ r. ⌜ r ≡ x ⌝ }
 {
     x as u64
@@ -55,7 +56,7 @@ fn kn_between(a: Row, b: Row, w: u64) -> [u64; 13]
     let mut kn = [0u64; 13];
     let mut i = 0;
     while i < 13 {
-        kn[i] = between(a, wide(lower[i]), b, wide(upper[i]), w);
+        kn[i] = between(a, millimetres(lower[i]), b, millimetres(upper[i]), w);
         i = i + 1;
     }
     kn

@@ -6,7 +6,7 @@ use Prim.Native.Nat.{ℕ, _+_, _*_}
 use native.Mathlib.Omega.{arith}
 use lib.ListN.{replicate}
 use lib.IntN.{ℤ, pos, negℤ, _+ℤ_, _-ℤ_, _*ℤ_}
-use Rattle.rules.specs.Answers.{got}
+use Rattle.rules.specs.Outcome.{got}
 use Rattle.rules.specs.Walk.{read}
 use Rattle.rules.specs.Answer.{answered}
 use Rattle.rules.specs.Rounding.{sumZ}
@@ -14,7 +14,7 @@ use Rattle.rules.specs.Curve.{Loaded, loaded, y}
 use Rattle.rules.specs.Criteria.{lw2}
 use Rattle.rules.specs.Roll.{phi1, start, farthest, net, noGust}
 use Rattle.rules.specs.Report.{pass, judgement}
-use Rattle.rules.proofs.Signed.{up, dn, eq!, add≡, diff≡}
+use Rattle.rules.proofs.rounding.Signed.{up, dn, eq!, add≡, diff≡}
 use Rattle.earned.specs.Example.{text, reading}
 use Rattle.earned.specs.Gust.{yBy, phi0By, startBy, eBy, netBy, gusts, Exactly, NowhereBelow}
 use Rattle.earned.proofs.Grid.{over, part}

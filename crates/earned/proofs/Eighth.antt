@@ -12,10 +12,10 @@ use Rattle.rules.specs.Curve.{Loaded, lever, leverZ, y}
 use Rattle.rules.specs.Criteria.{lw1, lw2, units, phi0}
 use Rattle.rules.specs.Roll.{k, p, r, phi1, start, e, net, notJudged, noGust, passes8}
 use Rattle.rules.specs.Report.{verdict, pass, unjudged, fail, verdict8}
-use Rattle.rules.proofs.Signed.{up, dn, Le, Lt, eq!, at-least, abs-pos, add≡, diff≡, up-neg, dn-neg, up-mull, dn-mull}
-use Rattle.rules.proofs.Divisions.{lw2-up}
-use Rattle.rules.proofs.Ranges.{judged, phi1-from}
-use Rattle.rules.proofs.Angles.{u-is, e-is}
+use Rattle.rules.proofs.rounding.Signed.{up, dn, Le, Lt, eq!, at-least, abs-pos, add≡, diff≡, up-neg, dn-neg, up-mull, dn-mull}
+use Rattle.rules.proofs.rounding.Divisions.{lw2-up}
+use Rattle.rules.proofs.criteria.Ranges.{judged, phi1-from}
+use Rattle.rules.proofs.criteria.Angles.{u-is, e-is}
 use Rattle.earned.specs.Gust.{leverBy, yBy, unitsBy, phi0By, startBy, eBy, netBy, gusts, NowhereBelow}
 use Rattle.earned.proofs.Steps.{lee, between}
 use Rattle.earned.proofs.Grid.{over, cut, not-negative, not-positive, net-is, linear, Between, between-over, whole}

@@ -12,14 +12,14 @@ use borrow.Author.Tests.{leb-true, ltb-true, ltb-false, lt-ltb, le-ltb}
 use Rattle.rules.specs.Rounding.{down, line, onward, table, span}
 use Rattle.rules.specs.Blocks.{Row}
 use Rattle.rules.specs.Layout.{Reading, Rising, Limits}
-use Rattle.rules.specs.Answers.{got, test}
+use Rattle.rules.specs.Outcome.{got, test}
 use Rattle.rules.specs.Loading.{total, moment, freeSurface, correctedKG, entriesOf, firstMass, lastMass, inTable, greatestKG, weighed}
 use Rattle.rules.specs.Curve.{between, stations, knAt, loadedAt, loaded}
 use Rattle.rules.specs.Criteria.{lw1}
-use Rattle.rules.proofs.Answers.{test-inv}
-use Rattle.rules.proofs.Fields.{both-true}
-use Rattle.rules.proofs.StraightLine.{line-rounded}
-use Rattle.rules.proofs.Divisions.{kg-up, lw1-up}
+use Rattle.rules.proofs.walk.Outcome.{test-inv}
+use Rattle.rules.proofs.layout.Fields.{both-true}
+use Rattle.rules.proofs.rounding.StraightLine.{line-rounded}
+use Rattle.rules.proofs.rounding.Divisions.{kg-up, lw1-up}
 use Rattle.earned.specs.Verdicts.{Behind}
 use Rattle.earned.specs.Exact.{cell, gapFrom, spanFrom, gapAt, spanAt, weight, over, column, exact, Straight, Fractions}
 

@@ -9,8 +9,8 @@ use lib.IntN.{ℤ, pos, +ℤ-comm, _+ℤ_, _*ℤ_}
 use Rattle.rules.specs.Curve.{Loaded, y}
 use Rattle.rules.specs.Criteria.{lw1, lw2, units, phi0}
 use Rattle.rules.specs.Roll.{farthest, e, noGust}
-use Rattle.rules.proofs.Signed.{up, dn, Le, Lt, eq! }
-use Rattle.rules.proofs.Angles.{phi0-is, gust, e-is}
+use Rattle.rules.proofs.rounding.Signed.{up, dn, Le, Lt, eq! }
+use Rattle.rules.proofs.criteria.Angles.{phi0-is, gust, e-is}
 use Rattle.earned.specs.Gust.{yBy, unitsBy, phi0By, eBy, Exactly}
 use Rattle.earned.proofs.Grid.{linear}
 use Rattle.earned.proofs.Finer.{at, heel-is, heel-hit, heel-from, heel-whole, end-is, end-beyond}

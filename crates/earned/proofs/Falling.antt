@@ -9,10 +9,10 @@ use native.Mathlib.Decide.{decLe}
 use lib.Dec.{leb, ltb}
 use borrow.Author.Tests.{ltb-true, leb-true, lt-ltb, le-leb}
 use Rattle.rules.specs.Rounding.{Point, point, up, line, onward, table}
-use Rattle.rules.proofs.Rounding.{ceiling-least}
-use Rattle.rules.proofs.StraightLine.{line-rounded, line-from, line-to}
-use Rattle.rules.proofs.Fields.{both-true}
-use Rattle.rules.proofs.Tables.{inOrder, near, far}
+use Rattle.rules.proofs.rounding.Rounding.{ceiling-least}
+use Rattle.rules.proofs.rounding.StraightLine.{line-rounded, line-from, line-to}
+use Rattle.rules.proofs.layout.Fields.{both-true}
+use Rattle.rules.proofs.rounding.Tables.{inOrder, near, far}
 use Rattle.earned.specs.Rolling.{finerTable}
 
 -- The values do not rise from point to point.

@@ -14,9 +14,9 @@ use Rattle.rules.specs.Blocks.{Weather, weather, ok, within}
 use Rattle.rules.specs.Curve.{Loaded, fifty, sines, lever, leverZ}
 use Rattle.rules.specs.Criteria.{code, angleOfGreatest, passes5}
 use Rattle.rules.specs.Ranges.{Fair}
-use Rattle.rules.proofs.Signed.{up, dn, sub≡}
-use Rattle.rules.proofs.Fields.{both-true, Limited, limited}
-use Rattle.rules.proofs.Searches.{Peak, peak-is}
+use Rattle.rules.proofs.rounding.Signed.{up, dn, sub≡}
+use Rattle.rules.proofs.layout.Fields.{both-true, Limited, limited}
+use Rattle.rules.proofs.rounding.Searches.{Peak, peak-is}
 use Rattle.earned.specs.Order.{Hull, Better}
 use Rattle.earned.specs.Verdicts.{used, Behind, passesFifth}
 

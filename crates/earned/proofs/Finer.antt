@@ -9,11 +9,11 @@ use lib.IntN.{ℤ, pos, ℤ-discrete, _+ℤ_, _-ℤ_, _*ℤ_}
 use Rattle.rules.specs.Curve.{Loaded, y, E}
 use Rattle.rules.specs.Criteria.{lw1, lw2, units, phi0}
 use Rattle.rules.specs.Roll.{phi1, start, farthest, u, e, noGust}
-use Rattle.rules.proofs.Signed.{up, dn, Le, Lt, eq!, diff≡}
-use Rattle.rules.proofs.Searches.{Reaches, reaches-is, Stays, stays-is}
-use Rattle.rules.proofs.Divisions.{lw2-up}
-use Rattle.rules.proofs.Angles as angles
-use Rattle.rules.proofs.Angles.{phi0-is, start-at, u-is, gust, e-is}
+use Rattle.rules.proofs.rounding.Signed.{up, dn, Le, Lt, eq!, diff≡}
+use Rattle.rules.proofs.rounding.Searches.{Reaches, reaches-is, Stays, stays-is}
+use Rattle.rules.proofs.rounding.Divisions.{lw2-up}
+use Rattle.rules.proofs.criteria.Angles as angles
+use Rattle.rules.proofs.criteria.Angles.{phi0-is, start-at, u-is, gust, e-is}
 use Rattle.earned.specs.Gust.{yBy, unitsBy, phi0By, uBy, eBy}
 use Rattle.earned.proofs.Steps.{between}
 use Rattle.earned.proofs.Grid.{linear}

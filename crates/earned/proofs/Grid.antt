@@ -8,7 +8,7 @@ use lib.IntN.{ℤ, pos, negsuc, natAbs, _+ℤ_, _-ℤ_, _*ℤ_}
 use lib.Signed.{ltZ}
 use Rattle.rules.specs.Rounding.{sumZ}
 use Rattle.rules.specs.Curve.{area}
-use Rattle.rules.proofs.Signed.{up, dn, Le, eq!, not-below, add≡, diff≡, up-mull, dn-mull}
+use Rattle.rules.proofs.rounding.Signed.{up, dn, Le, eq!, not-below, add≡, diff≡, up-mull, dn-mull}
 
 -- The two levers at the ends of a step.
 abbrev pub pair : (ℤ → ℤ) → ℤ → ℤ

@@ -15,7 +15,7 @@ use Rattle.rules.specs.Blocks.{Weather}
 use Rattle.rules.specs.Curve.{Loaded, area}
 use Rattle.rules.specs.Criteria as criteria
 use Rattle.rules.specs.Criteria.{code, passes1, passes2, passes3, passes4, passes6, passes7, area1, area2, area3}
-use Rattle.rules.proofs.Signed.{at-least, le-true}
+use Rattle.rules.proofs.rounding.Signed.{at-least, le-true}
 use Rattle.earned.specs.Order.{NoLess, Hull, Better, finer, curve, Follows}
 use Rattle.earned.specs.Verdicts.{Criterion, one, two, three, four, six, seven, limitOver, greatestLever, phi0, passesOver, passes, used, Behind}
 use Rattle.earned.proofs.Order.{difference, reached, order}

@@ -12,8 +12,8 @@ use lib.Signed.{ltZ}
 use Rattle.rules.specs.Rounding.{peak, sumZ}
 use Rattle.rules.specs.Curve.{fifty, sines, lever, leverZ, area}
 use Rattle.rules.specs.Criteria.{reaches}
-use Rattle.rules.proofs.Signed.{Le, add≡, sub≡}
-use Rattle.rules.proofs.Searches.{Peak, peak-is, Reaches, reaches-is}
+use Rattle.rules.proofs.rounding.Signed.{Le, add≡, sub≡}
+use Rattle.rules.proofs.rounding.Searches.{Peak, peak-is, Reaches, reaches-is}
 use Rattle.earned.specs.Order.{NoLess, Hull, Better, curve, Follows}
 
 -- ---- sums and differences keep the order, and so does a level that is reached

@@ -11,7 +11,7 @@ use lib.Signed.{leZ}
 use Rattle.rules.specs.Rounding.{sumZ}
 use Rattle.rules.specs.Blocks.{Weather}
 use Rattle.rules.specs.Layout.{Reading, Limits}
-use Rattle.rules.specs.Answers.{got}
+use Rattle.rules.specs.Outcome.{got}
 use Rattle.rules.specs.Walk.{read}
 use Rattle.rules.specs.Loading.{weighed}
 use Rattle.rules.specs.Curve.{Loaded, loaded}
@@ -20,9 +20,9 @@ use Rattle.rules.specs.Roll.{period, phi1, start, e, net, notJudged, noGust}
 use Rattle.rules.specs.Report.{pass, void, verdict, verdict8, judgement}
 use Rattle.rules.specs.Ranges.{Fair}
 use Rattle.rules.specs.Answer.{answered}
-use Rattle.rules.proofs.Signed.{Le, le-true, up-mull, dn-mull}
-use Rattle.rules.proofs.Fair.{fair}
-use Rattle.rules.proofs.Ranges.{judged, phi1-from}
+use Rattle.rules.proofs.rounding.Signed.{Le, le-true, up-mull, dn-mull}
+use Rattle.rules.proofs.loading.Fair.{fair}
+use Rattle.rules.proofs.criteria.Ranges.{judged, phi1-from}
 use Rattle.earned.specs.Order.{NoLess, Hull, finer, Better, curve, Follows}
 use Rattle.earned.specs.Verdicts.{Criterion, one, two, three, four, six, seven, passesOver, passesFifth, passes, place, used, Behind}
 use Rattle.earned.specs.Exact.{over, exact, Fractions}

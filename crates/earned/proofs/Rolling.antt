@@ -12,12 +12,12 @@ use Rattle.rules.specs.Blocks.{ship, ok, within}
 use Rattle.rules.specs.Curve.{Loaded}
 use Rattle.rules.specs.Ranges.{Fair}
 use Rattle.rules.specs.Roll.{b, C, q, period, X1, X2, K, S, keelIndex, k, x1, x2, s, p, r, rOf, phi1}
-use Rattle.rules.proofs.Signed as signed
-use Rattle.rules.proofs.Signed.{dn, Le, add≡, sub≡, up-mull, dn-mull, up-mulr, dn-mulr}
-use Rattle.rules.proofs.Rounding.{ceil-is, ceilZ-is}
-use Rattle.rules.proofs.Fields.{both-true, Limited, limited}
-use Rattle.rules.proofs.Divisions.{b-down, q-down, keelIndex-down}
-use Rattle.rules.proofs.Ranges.{Judged, r-range, period-judged, phi1-judged, C-whole}
+use Rattle.rules.proofs.rounding.Signed as signed
+use Rattle.rules.proofs.rounding.Signed.{dn, Le, add≡, sub≡, up-mull, dn-mull, up-mulr, dn-mulr}
+use Rattle.rules.proofs.rounding.Rounding.{ceil-is, ceilZ-is}
+use Rattle.rules.proofs.layout.Fields.{both-true, Limited, limited}
+use Rattle.rules.proofs.rounding.Divisions.{b-down, q-down, keelIndex-down}
+use Rattle.rules.proofs.criteria.Ranges.{Judged, r-range, period-judged, phi1-judged, C-whole}
 use Rattle.earned.specs.Rolling.{finerTable, exactX1, exactX2, exactK, exactS, exactR, exactC, NoShorter, exactP, over, WithinRoll}
 use Rattle.earned.proofs.Falling.{table-finer, table-beyond}
 

@@ -8,7 +8,7 @@ use native.Mathlib.Decide.{decLt}
 use lib.ListN.{getD}
 use lib.IntN.{ℤ, pos, negsuc, negℤ, subℕ, _+ℤ_, _*ℤ_}
 use Rattle.rules.specs.Curve.{Loaded, fifty, sines, lever, leverZ, y}
-use Rattle.rules.proofs.Signed.{eq!, sub≡, add≡, up-neg, dn-neg, up-mull, dn-mull}
+use Rattle.rules.proofs.rounding.Signed.{eq!, sub≡, add≡, up-neg, dn-neg, up-mull, dn-mull}
 use Rattle.earned.specs.Gust.{stepped, leverBy, yBy}
 
 -- ---- natural numbers: D steps from station to station

@@ -8,8 +8,8 @@ use lib.IntN.{pos, subℕ}
 use Rattle.rules.specs.Blocks.{row, ok, within}
 use Rattle.rules.specs.Curve.{Loaded, lever, leverZ, y}
 use Rattle.rules.specs.Ranges.{rowAt, Fair}
-use Rattle.rules.proofs.Signed.{eq!, sub≡}
-use Rattle.rules.proofs.Fields.{both-true, Limited, limited}
+use Rattle.rules.proofs.rounding.Signed.{eq!, sub≡}
+use Rattle.rules.proofs.layout.Fields.{both-true, Limited, limited}
 
 pub upright : (c : Loaded) → Fair c → y c (pos 0) ≡ pos 0
 unfolding ok Limited leverZ lever

@@ -3,7 +3,7 @@ use mathlib.Core.List.{List, [], _∷_}
 use Prim.Native.Nat.{ℕ}
 use Rattle.rules.specs.Blocks.{Row, item}
 use Rattle.rules.specs.Layout.{Reading, end, leaf}
-use Rattle.rules.proofs.Cases.{lines}
+use Rattle.rules.proofs.bench.Cases.{lines}
 
 abbrev pub text : List ℕ
 text = lines (

@@ -8,7 +8,7 @@ use lib.IntN.{ℤ, pos, negsuc, negℤ, subℕ, _+ℤ_, _-ℤ_, _*ℤ_}
 use Rattle.rules.specs.Curve.{Loaded, sines, y, E, area}
 use Rattle.rules.specs.Criteria.{lw1, lw2, units, reaches}
 use Rattle.rules.specs.Roll.{start, farthest, stays}
-use Rattle.rules.proofs.Signed.{Le}
+use Rattle.rules.proofs.rounding.Signed.{Le}
 
 -- D times the straight-line value of values at stations, D steps apart, at step x. (01's y is by 50 steps, tenths of a degree.)
 abbrev pub stepped : ℕ → List ℕ → ℕ → ℕ

@@ -6,7 +6,7 @@ use lib.IntN.{ℤ, pos}
 use Rattle.rules.specs.Rounding.{peak}
 use Rattle.rules.specs.Curve.{leverZ, area}
 use Rattle.rules.specs.Criteria.{reaches}
-use Rattle.rules.proofs.Signed.{up, dn}
+use Rattle.rules.proofs.rounding.Signed.{up, dn}
 
 -- m a ≤ n b, of whole numbers of either sign.
 abbrev pub NoLess : ℕ → ℕ → ℤ → ℤ → Type 0

@@ -6,10 +6,10 @@ use lib.ListN.{length-append}
 use Rattle.rules.specs.Blocks.{Load, Values}
 use Rattle.rules.specs.Layout.{Entries, end, leaf, group}
 use Rattle.rules.specs.Loading.{flat, total, mass, moment, freeSurface}
-use Rattle.rules.proofs.Sums.{total-append}
+use Rattle.rules.proofs.loading.Sums.{total-append}
 use Rattle.book.specs.Book.{sumsOf}
 use Rattle.book.specs.declared.Sums.{Sums}
-use Rattle.blocks.specs.Told.{sumsOfOne}
+use Rattle.blocks.specs.BlockAnswers.{sumsOfOne}
 use Rattle.frames.specs.Sums.{none, plus}
 
 same : {a b c d a′ b′ c′ d′ : ℕ} → a ≡ a′ → b ≡ b′ → c ≡ c′ → d ≡ d′ → _≡_ {A = Sums} (record { count = a; mass = b; moment = c; free = d }) (record { count = a′; mass = b′; moment = c′; free = d′ })

@@ -8,14 +8,14 @@ use borrow.Author.Tests.{ltb-true}
 use Rattle.rules.specs.Blocks.{Load, Values, ok, entry}
 use Rattle.rules.specs.Blocks as rules
 use Rattle.rules.specs.Layout.{mostEntries}
-use Rattle.rules.specs.Answers.{Ans, refused, got}
+use Rattle.rules.specs.Outcome.{Ans, refused, got}
 use Rattle.rules.specs.Walk.{Tag, load, nested, fixed, one, nest, begun, blockAt}
 use Rattle.rules.specs.Walk as walk
-use Rattle.rules.proofs.Answers.{bind-inv, test-inv}
-use Rattle.book.specs.Book.{Refuses}
+use Rattle.rules.proofs.walk.Outcome.{bind-inv, test-inv}
+use Rattle.book.specs.Book.{refusal, Refuses}
 use Rattle.book.specs.declared.Sums.{Sums}
 use Rattle.book.specs.declared.Refusal.{Refusal}
-use Rattle.blocks.specs.Told.{refusal, sumsOfOne, blockOf}
+use Rattle.blocks.specs.BlockAnswers.{sumsOfOne, blockOf}
 use Rattle.blocks.specs.declared.entries.Block.{Block}
 use Rattle.blocks.specs.declared.entries.Block.the-variants as block
 use Rattle.frames.specs.Sums.{Bounded}

@@ -10,13 +10,13 @@ use lib.Dec.{ltb}
 use Rattle.rules.specs.Numbers.{Bytes}
 use Rattle.rules.specs.Blocks.{ok, Load, item, tank, Values, entry}
 use Rattle.rules.specs.Layout.{Entries, end, leaf, group, leaves, Good, mostEntries}
-use Rattle.rules.specs.Answers.{got}
+use Rattle.rules.specs.Outcome.{got}
 use Rattle.rules.specs.Walk.{entries}
-use Rattle.rules.proofs.Sums.{leaves-flat}
-use Rattle.rules.proofs.Walked.{entries-sound}
+use Rattle.rules.proofs.loading.Sums.{leaves-flat}
+use Rattle.rules.proofs.walk.Entries.{entries-sound}
 use Rattle.book.specs.Book.{sumsOf}
 use Rattle.book.specs.declared.Sums.{Sums}
-use Rattle.blocks.specs.Told.{sumsOfOne}
+use Rattle.blocks.specs.BlockAnswers.{sumsOfOne}
 use Rattle.blocks.proofs.Limits.{limits-item, limits-tank}
 use Rattle.frames.specs.Sums.{plus, Bounded}
 use Rattle.frames.proofs.Adding.{plus-end, plus-leaf, plus-group}

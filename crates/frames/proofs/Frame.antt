@@ -5,16 +5,16 @@ use native.Mathlib.Omega.{arith}
 use Rattle.rules.specs.Blocks as rules
 use Rattle.rules.specs.Layout.{Entries}
 use Rattle.rules.specs.Layout as layout
-use Rattle.rules.specs.Answers.{Ans, refused, got, _>>=_}
+use Rattle.rules.specs.Outcome.{Ans, refused, got, _>>=_}
 use Rattle.rules.specs.Walk.{load, tableRow, theCondition}
-use Rattle.book.specs.Book.{sumsOf, weatherOf, blankRow, Refuses}
+use Rattle.book.specs.Book.{refusal, plainWeather, sumsOf, weatherOf, blankRow, Refuses}
 use Rattle.book.specs.declared.Weather.{Weather}
 use Rattle.book.specs.declared.Refusal.{Refusal}
-use Rattle.blocks.specs.Told.{refusal, plainWeather, weatherRead, rowRead}
+use Rattle.blocks.specs.BlockAnswers.{weatherRead, rowRead}
 use Rattle.blocks.specs.declared.weather.WeatherRead.{WeatherRead}
 use Rattle.blocks.specs.declared.weather.WeatherRead.the-variants as weather
 use Rattle.frames.specs.Sums.{none}
-use Rattle.frames.specs.Told.{loadRead, conditionRead, loaded, frameRead, rowFound, conditionFound}
+use Rattle.frames.specs.FrameAnswers.{loadRead, conditionRead, loaded, frameRead, rowFound, conditionFound}
 use Rattle.frames.specs.declared.LoadRead.the-variants.{Sum, Refused}
 use Rattle.frames.proofs.Adding.{plus-none}
 

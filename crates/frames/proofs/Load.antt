@@ -7,16 +7,16 @@ use lib.ListN.{drop}
 use Rattle.rules.specs.Numbers.{Bytes}
 use Rattle.rules.specs.Blocks.{Load, Values}
 use Rattle.rules.specs.Layout.{Entries, leaf, group, leaves, mostEntries}
-use Rattle.rules.specs.Answers.{Ans, refused, got, _>>=_}
+use Rattle.rules.specs.Outcome.{Ans, refused, got, _>>=_}
 use Rattle.rules.specs.Walk.{entries}
 use Rattle.rules.specs.Parts.{part}
-use Rattle.rules.proofs.Numbers.{Bytes-take, Bytes-drop}
-use Rattle.book.specs.Book.{sumsOf, Refuses}
+use Rattle.rules.proofs.layout.Numbers.{Bytes-take, Bytes-drop}
+use Rattle.book.specs.Book.{refusal, sumsOf, Refuses}
 use Rattle.book.specs.declared.Sums.{Sums}
 use Rattle.book.specs.declared.Refusal.{Refusal}
-use Rattle.blocks.specs.Told.{refusal, sumsOfOne}
+use Rattle.blocks.specs.BlockAnswers.{sumsOfOne}
 use Rattle.frames.specs.Sums.{plus, Bounded}
-use Rattle.frames.specs.Told.{loadRead}
+use Rattle.frames.specs.FrameAnswers.{loadRead}
 use Rattle.frames.specs.declared.LoadRead.{LoadRead}
 use Rattle.frames.specs.declared.LoadRead.the-variants.{Sum, Refused}
 use Rattle.frames.proofs.Adding.{plus-leaf, plus-group}

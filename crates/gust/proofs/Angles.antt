@@ -10,8 +10,8 @@ use Rattle.rules.specs.Curve.{Loaded, y, area}
 use Rattle.rules.specs.Criteria.{lw1, lw2, units, phi0}
 use Rattle.rules.specs.Roll.{phi1, start, e}
 use Rattle.rules.specs.Ranges.{Fair}
-use Rattle.rules.proofs.Signed.{up, dn, Le, up-neg, dn-neg, up-add, dn-add}
-use Rattle.rules.proofs.Angles.{u-is, gust, e-is}
+use Rattle.rules.proofs.rounding.Signed.{up, dn, Le, up-neg, dn-neg, up-add, dn-add}
+use Rattle.rules.proofs.criteria.Angles.{u-is, gust, e-is}
 use Rattle.curve.specs.Levers.{upTo}
 use Rattle.curve.proofs.Areas.{leeward, windward}
 use Rattle.curve.proofs.Curves.{lever-odd, fair-upright}

@@ -1,56 +1,56 @@
 -- The instrument's steps joined: from what was read to 7, 8 or the loaded ship, and from an answer to what is sent back. One fact for each way out.
 use mathlib.Core.Path.{_≡_, refl, ap, sym, _∙_}
-use mathlib.Core.Bool.{Bool, true, false, cond}
+use mathlib.Core.Bool.{Bool, true, false}
 use mathlib.Core.List.{List}
 use Prim.Native.Nat.{ℕ, _≤_, _<_}
 use native.Mathlib.Omega.{arith}
 use lib.Dec.{leb}
 use lib.ListN.{length}
 use Rattle.rules.specs.Layout.{Reading}
-use Rattle.rules.specs.Answers.{Ans, refused, got}
+use Rattle.rules.specs.Outcome.{Ans, refused, got, test, _>>=_, _>>_}
 use Rattle.rules.specs.Walk.{read}
 use Rattle.rules.specs.Blocks.{Row}
-use Rattle.rules.specs.Loading.{weighed, inTable, displacement, correctedKG, greatestKG, entriesOf}
+use Rattle.rules.specs.Loading.{weighed, weighedAt, inTable, displacement, correctedKG, greatestKG, entriesOf}
 use Rattle.rules.specs.Curve.{Loaded, loadedAt, loaded}
 use Rattle.rules.specs.Report.{Judgement, judgement, reportLength}
 use Rattle.rules.specs.Ranges.{Fair}
 use Rattle.rules.specs.Answer.{judged, answered, number, written}
-use Rattle.rules.proofs.Answer.{answered-refused, answered-read, judged-refused, judged-weighed, number-room, written-room}
-use Rattle.rules.proofs.Fair.{fair}
-use Rattle.rules.proofs.Whole.{sound}
-use Rattle.rules.proofs.Within.{place-within}
-use Rattle.book.specs.Book.{shipOf, weatherOf, rowsOf, loadedOf, judgementOf}
+use Rattle.rules.proofs.answer.Steps.{answered-refused, answered-read, judged-refused, judged-weighed, number-room, written-room}
+use Rattle.rules.proofs.loading.Fair.{fair}
+use Rattle.rules.proofs.walk.WholeText.{sound}
+use Rattle.rules.proofs.walk.PlaceWithin.{place-within}
+use Rattle.book.specs.Book.{shipOf, weatherOf, rowsOf, loadedOf, judgementOf, refusal}
 use Rattle.book.specs.declared.Table.{Table}
 use Rattle.book.specs.declared.Loaded as plain
 use Rattle.book.specs.declared.Judgement as plain′
 use Rattle.book.specs.declared.Refusal.{Refusal}
 use Rattle.book.specs.declared.Sums.{Sums}
-use Rattle.curve.specs.Weighing.{Whole, Sound, refusal, kgOf, weighedOf, Weighs}
+use Rattle.curve.specs.Weighing.{Whole, Sound, kgOf, weight, weighedOf, Weighs}
 use Rattle.curve.specs.declared.loading.Weighed.{Weighed}
 use Rattle.curve.specs.declared.loading.Weighed.the-variants as weighing
 use Rattle.curve.proofs.Soundness as soundness
-use Rattle.reading.specs.Told.{plainReading, told}
+use Rattle.reading.specs.TextAnswers.{plainReading, told}
 use Rattle.reading.specs.declared.Read.{Read}
 use Rattle.reading.specs.declared.Answer.{Answer}
 use Rattle.reading.specs.declared.Answer.the-variants as answer
 use Rattle.reading.specs.declared.TextRead.{TextRead}
-use Rattle.instrument.specs.Sent.{Sent, Tells, SentJudged, SentRead}
+use Rattle.instrument.specs.Sent.{Sent, Says, SentJudged, SentRead}
 
 -- 'For 7, 8 and 9 both are 0.'
 pub no-place : (rows : List Row) (s : Sums) (f : Refusal) → weighing.Refused f ≡ weighedOf rows s → (f .line ≡ 0) × (f .offset ≡ 0)
-unfolding weighedOf
+unfolding weighedOf weighedAt test _>>_ _>>=_
 no-place rows s f e = go (inTable rows (s .mass)) (leb (kgOf s) greatestKG) e
   where
-    of : (n : ℕ) → weighing.Refused f ≡ weighing.Refused (refusal n) → (f .line ≡ 0) × (f .offset ≡ 0)
-    of n e = let q : f ≡ refusal n = cc in rw q (refl, refl)
+    of : (n : ℕ) → weighing.Refused f ≡ weighing.Refused (refusal n 0 0) → (f .line ≡ 0) × (f .offset ≡ 0)
+    of n e = let q : f ≡ refusal n 0 0 = cc in rw q (refl, refl)
 
-    go : (a b : Bool) → weighing.Refused f ≡ cond a (cond b (weighing.Fine (s .mass) (kgOf s)) (weighing.Refused (refusal 8))) (weighing.Refused (refusal 7)) → (f .line ≡ 0) × (f .offset ≡ 0)
+    go : (a b : Bool) → weighing.Refused f ≡ weight (s .mass) (kgOf s) (test a 7 0 0 >> test b 8 0 0) → (f .line ≡ 0) × (f .offset ≡ 0)
     go true true e = let z : _≡_ {A = ℕ} 0 1 = cc in absurd (omega arith)
     go true false e = of 8 e
     go false b e = of 7 e
 
 -- ---- what was read
-module _ (r : Reading) (x : Read) (t : Table) (T : Tells r x t) where
+module _ (r : Reading) (x : Read) (t : Table) (T : Says r x t) where
   pub sound-of : Sound (x .sums) t
   sound-of = rw (T .plain, T .rows) (soundness.sound r (T .limits))
 
@@ -96,10 +96,10 @@ module _ (t : List ℕ) (x : TextRead) (e : x ≡ told (read t)) where
           let u : _≡_ {A = Answer} (answer.Whole (plainReading r)) (answer.Refused f) = sym (ap (λ (y : TextRead). y .answer) (e ∙ ap told q)) ∙ p in
           let z : _≡_ {A = ℕ} 0 1 = cc in absurd (omega arith)
 
-  pub whole-read : (w : Read) → x .answer ≡ answer.Whole w → (r : Reading) × (read t ≡ got r) × Tells r w (x .table)
+  pub whole-read : (w : Read) → x .answer ≡ answer.Whole w → (r : Reading) × (read t ≡ got r) × Says r w (x .table)
   whole-read w p = go (read t) refl
     where
-      go : (a : Ans Reading) → read t ≡ a → (r : Reading) × (read t ≡ got r) × Tells r w (x .table)
+      go : (a : Ans Reading) → read t ≡ a → (r : Reading) × (read t ≡ got r) × Says r w (x .table)
       go (refused n l o) q =
           let u : _≡_ {A = Answer} (answer.Refused (record { number = n; line = l; offset = o })) (answer.Whole w) = sym (ap (λ (y : TextRead). y .answer) (e ∙ ap told q)) ∙ p in
           let z : _≡_ {A = ℕ} 0 1 = cc in absurd (omega arith)
@@ -120,5 +120,5 @@ module _ (t before after : List ℕ) (n : ℕ) (h : reportLength ≤ length befo
   pub sent-refused : (f : Refusal) → read t ≡ refused (f .number) (f .line) (f .offset) → Sent (refused (f .number) (f .line) (f .offset)) before n after → (n ≡ number t before) × (after ≡ written t before)
   sent-refused f e s = sent-answer _ (answered-refused t e) s
 
-  pub sent-read : (r : Reading) (w : Read) (y : Table) → read t ≡ got r → Tells r w y → SentRead w y before n after → (n ≡ number t before) × (after ≡ written t before)
+  pub sent-read : (r : Reading) (w : Read) (y : Table) → read t ≡ got r → Says r w y → SentRead w y before n after → (n ≡ number t before) × (after ≡ written t before)
   sent-read r w y e T s = sent-answer _ (answered-read t r e) (s r T)

@@ -1,4 +1,4 @@
 pub mod Joined
-pub mod Promised
+pub mod Replies
 pub mod Promises
 pub mod OneAnswer

@@ -7,7 +7,7 @@ use Prim.Native.Nat.{ℕ, _≤_, _<_}
 use lib.ListN.{length, take, drop}
 use denote.Ref.{now}
 use Rattle.rules.specs.Layout.{Reading, Allowed}
-use Rattle.rules.specs.Answers.{refused, got}
+use Rattle.rules.specs.Outcome.{refused, got}
 use Rattle.rules.specs.Walk.{read}
 use Rattle.rules.specs.Loading.{weighed}
 use Rattle.rules.specs.Curve.{loaded}
@@ -15,7 +15,7 @@ use Rattle.rules.specs.Report.{judgement, noJudgement, report, reportLength}
 use Rattle.rules.specs.Answer.{answered, reportOf, number, written}
 use Rattle.instrument.specs.Outside.{Outside, TooHigh, Neither}
 use Rattle.instrument.proofs.judge.Reads as judge
-use Rattle.instrument.proofs.Promised as promised
+use Rattle.instrument.proofs.Replies as replies
 
 -- One run of `judge` as its contract admits it: lent `text` and the buffer `before`, it sends back `n` and leaves the buffer `after`.
 -- (Post is what rattle makes of the contract itself; a: the arguments, s: the arguments at the end.)
@@ -33,43 +33,43 @@ module _ (text before : List ℕ) (n : ℕ) (after : List ℕ) (run : Judges tex
   -- ---- every text is answered
   -- With fewer than 209 bytes of room the number is 9 and every byte of the buffer is as it was, whatever the text.
   pub no-room : length before < reportLength → (n ≡ 9) × (after ≡ before)
-  no-room = promised.short text before n after (settled .0) (settled .1)
+  no-room = replies.short text before n after (settled .0) (settled .1)
 
   module _ (room : reportLength ≤ length before) where
     -- With room for 209 bytes every text is answered: the number is one of 0 to 8, the first 209 characters are the report of what document 01 answers, and each byte beyond is as it was.
     pub every-text-answered : (n ≤ 8) × (take reportLength after ≡ reportOf (answered text)) × (drop reportLength after ≡ drop reportLength before)
-    every-text-answered = promised.room text before n after (settled .0) (settled .1) room
+    every-text-answered = replies.room text before n after (settled .0) (settled .1) room
 
     -- ---- demand 1: a refusal says what and where
     -- A text that is refused in the reading gets that refusal's number, and its report has the number, the line and the offset, verdicts 3 and figures 0.
     pub refusal-reported : (m l o : ℕ) → read text ≡ refused m l o → (n ≡ m) × (take reportLength after ≡ report m l o noJudgement)
-    refusal-reported = promised.refusal-sent text before n after (settled .0) (settled .1) room
+    refusal-reported = replies.refusal-sent text before n after (settled .0) (settled .1) room
 
     -- A reading that is refused for its mass or its KG gets 7 or 8, and its report has line 0 and offset 0, verdicts 3 and figures 0.
     pub refusal-reported-7-8 : (r : Reading) → read text ≡ got r → (m : ℕ) → weighed r ≡ refused m 0 0 → (n ≡ m) × (take reportLength after ≡ report m 0 0 noJudgement)
-    refusal-reported-7-8 = promised.weighing-sent text before n after (settled .0) (settled .1) room
+    refusal-reported-7-8 = replies.weighing-sent text before n after (settled .0) (settled .1) room
 
     -- ---- demand 2: the figures are those of the reading
     -- For a text that is read and within the table and the KG, the verdicts and figures reported are those that document 01 gives for its reading.
     pub figures-of-reading : (r : Reading) → read text ≡ got r → weighed r ≡ got tt → (n ≡ 0) × (take reportLength after ≡ report 0 0 0 (judgement (loaded r)))
-    figures-of-reading = promised.judgement-sent text before n after (settled .0) (settled .1) room
+    figures-of-reading = replies.judgement-sent text before n after (settled .0) (settled .1) room
 
     -- ---- demand 3: which texts are judged
     -- The number is none of 1 to 6 and 9 exactly when the text is allowed.
     pub read-iff-allowed : ((¬ ((1 ≤ n) × (n ≤ 6))) × (n ≢ 9)) ↔ Allowed text
-    read-iff-allowed = promised.unrefused text before n after (settled .0) (settled .1) room
+    read-iff-allowed = replies.unrefused text before n after (settled .0) (settled .1) room
 
     -- It is 7 exactly when the text is allowed and its total mass is below the table's first row or above its last.
     pub seven-iff-outside : (n ≡ 7) ↔ ((a : Allowed text) × Outside (a .0))
-    seven-iff-outside = promised.number-7 text before n after (settled .0) (settled .1) room
+    seven-iff-outside = replies.number-7 text before n after (settled .0) (settled .1) room
 
     -- It is 8 exactly when the text is allowed, its mass inside the table, and the corrected KG above 60,000.
     pub eight-iff-too-high : (n ≡ 8) ↔ ((a : Allowed text) × TooHigh (a .0))
-    eight-iff-too-high = promised.number-8 text before n after (settled .0) (settled .1) room
+    eight-iff-too-high = replies.number-8 text before n after (settled .0) (settled .1) room
 
     -- It is 0, and the ship is judged, exactly when the text is allowed and neither holds.
     pub judged-iff-neither : (n ≡ 0) ↔ ((a : Allowed text) × Neither (a .0))
-    judged-iff-neither = promised.number-0 text before n after (settled .0) (settled .1) room
+    judged-iff-neither = replies.number-0 text before n after (settled .0) (settled .1) room
 
 -- ---- one answer
 -- Any two runs over the same text and the same buffer send back the same number and leave the same buffer.
@@ -85,6 +85,6 @@ pub reading-settles : (text text′ before before′ : List ℕ) (n n′ : ℕ) 
 reading-settles text text′ before before′ n n′ after after′ run run′ room room′ r e e′ =
     let p = contract text before n after run in
     let q = contract text′ before′ n′ after′ run′ in
-    let u = promised.of-reading text before n after (p .0) (p .1) room r e in
-    let v = promised.of-reading text′ before′ n′ after′ (q .0) (q .1) room′ r e′ in
+    let u = replies.of-reading text before n after (p .0) (p .1) room r e in
+    let v = replies.of-reading text′ before′ n′ after′ (q .0) (q .1) room′ r e′ in
     (u .0 ∙ sym (v .0), u .1 ∙ sym (v .1))

@@ -2,11 +2,11 @@
 ghost use mathlib.Core.Path.{_≡_};
 ghost use Prim.Native.Nat.{_≤_, _<_};
 ghost use lib.ListN.{length};
-ghost use Rattle.rules.specs.Answers.{refused};
+ghost use Rattle.rules.specs.Outcome.{refused};
 ghost use Rattle.rules.specs.Report.{noJudgement, reportLength};
 ghost use Rattle.rules.specs.Answer.{number, written};
 ghost use Rattle.book.specs.Book.{judgementOf};
-ghost use Rattle.instrument.specs.Sent.{Sent, SentJudged, SentRead, Told};
+ghost use Rattle.instrument.specs.Sent.{Sent, SentJudged, SentRead, OfReading};
 use book::Judgement;
 use book::Refusal;
 
@@ -50,7 +50,7 @@ fn send(judgement: Judgement, report: &mut [u8]) -> u8
 // What is read is weighed, loaded and judged.
 fn judge_reading(read: reading::Read, table: book::Table, report: &mut [u8]) -> u8
     requires { ⌜ reportLength ≤ length (now report) ⌝ }
-    requires { ⌜ Told read table ⌝ }
+    requires { ⌜ OfReading read table ⌝ }
     ensures { λ r. ⌜ SentRead read table (now (report .entry)) r (now (report .exit)) ⌝ }
 {
     let weighed = curve::loading::weigh(read.sums, table);

@@ -9,20 +9,20 @@ use lib.Seq.{set-at}
 use borrow.Author.Tests.{ltb-true}
 use Rattle.rules.specs.Blocks as rules
 use Rattle.rules.specs.Layout.{Condition, Reading, mostRows}
-use Rattle.rules.specs.Answers.{Ans, refused, got, _>>=_}
+use Rattle.rules.specs.Outcome.{Ans, refused, got, _>>=_}
 use Rattle.rules.specs.Walk.{Head, header, shipFrame, Frame, aRow, aCondition, Found, tableRow, theCondition, found, frameAt, closed, Tail, after, tail, readFrames}
-use Rattle.rules.proofs.Answers.{bind-inv, test-inv, bind-got, bind-refused}
-use Rattle.book.specs.Book.{shipOf, plainRow, blankRow, tableOf, sumsOf}
+use Rattle.rules.proofs.walk.Outcome.{bind-inv, test-inv, bind-got, bind-refused}
+use Rattle.book.specs.Book.{refusal, plainShip, plainWeather, shipOf, plainRow, blankRow, tableOf, sumsOf}
 use Rattle.book.specs.declared.Ship.{Ship}
 use Rattle.book.specs.declared.Row.{Row}
 use Rattle.book.specs.declared.Table.{Table}
 use Rattle.book.specs.declared.Refusal.{Refusal}
-use Rattle.blocks.specs.Told.{refusal, plainShip, plainWeather, begunOf, shipRead}
+use Rattle.blocks.specs.BlockAnswers.{begunOf, shipRead}
 use Rattle.blocks.specs.declared.Begun.{Begun}
 use Rattle.blocks.specs.declared.Begun.the-variants as begun
 use Rattle.blocks.proofs.Heads.{head-short, head-block}
-use Rattle.frames.specs.Told.{frameRead}
-use Rattle.reading.specs.Told.{refusedRead, told}
+use Rattle.frames.specs.FrameAnswers.{frameRead}
+use Rattle.reading.specs.TextAnswers.{refusedRead, told}
 use Rattle.reading.specs.Moved.{afterShip, afterFound, afterWhole, moved, withRow, finished}
 use Rattle.reading.specs.declared.Read.{Read}
 use Rattle.reading.specs.declared.State.{State}

@@ -7,17 +7,16 @@ use native.Mathlib.Omega.{arith}
 use lib.ListN.{length, drop}
 use borrow.Author.Tests.{le-leb, lt-leb}
 use Rattle.rules.specs.Layout.{mostRows, mostCharacters}
-use Rattle.rules.specs.Answers.{Ans, refused, got, _>>=_}
+use Rattle.rules.specs.Outcome.{Ans, refused, got, _>>=_}
 use Rattle.rules.specs.Walk.{linesFrom, Found, tableRow, theCondition, frameAt, readFrames, read}
 use Rattle.rules.specs.Parts.{part}
-use Rattle.rules.proofs.Parts.{part-end}
-use Rattle.rules.proofs.Answers.{bind-got, bind-refused, test-got, test-refused}
-use Rattle.book.specs.Book.{tableOf}
+use Rattle.rules.proofs.layout.Parts.{part-end}
+use Rattle.rules.proofs.walk.Outcome.{bind-got, bind-refused, test-got, test-refused}
+use Rattle.book.specs.Book.{refusal, tableOf}
 use Rattle.book.specs.declared.Table.{Table}
-use Rattle.blocks.specs.Told.{refusal}
 use Rattle.text.proofs.Laws.{lines-none}
-use Rattle.frames.specs.Told.{frameRead}
-use Rattle.reading.specs.Told.{refusedRead, told}
+use Rattle.frames.specs.FrameAnswers.{frameRead}
+use Rattle.reading.specs.TextAnswers.{refusedRead, told}
 use Rattle.reading.specs.Moved.{afterFound, moved, withRow, finished}
 use Rattle.reading.specs.declared.State.{State}
 use Rattle.reading.specs.declared.State.the-variants.{Awaited, Rows, Whole, Refused}

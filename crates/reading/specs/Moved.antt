@@ -4,19 +4,19 @@ use mathlib.Core.List.{List}
 use Prim.Native.Nat.{ℕ, _+_, _-_}
 use lib.ListN.{set}
 use Rattle.rules.specs.Walk.{header, shipFrame, frameAt}
-use Rattle.book.specs.Book.{blankRow}
+use Rattle.book.specs.Book.{refusal, blankRow}
 use Rattle.book.specs.declared.Ship.{Ship}
 use Rattle.book.specs.declared.Row.{Row}
 use Rattle.book.specs.declared.Table.{Table}
-use Rattle.blocks.specs.Told.{refusal, begunOf, shipRead}
+use Rattle.blocks.specs.BlockAnswers.{begunOf, shipRead}
 use Rattle.blocks.specs.declared.Begun.{Begun}
 use Rattle.blocks.specs.declared.Begun.the-variants as begun
 use Rattle.blocks.specs.declared.ship.ShipRead.{ShipRead}
 use Rattle.blocks.specs.declared.ship.ShipRead.the-variants as ship
-use Rattle.frames.specs.Told.{frameRead}
+use Rattle.frames.specs.FrameAnswers.{frameRead}
 use Rattle.frames.specs.declared.Found.{Found}
 use Rattle.frames.specs.declared.Found.the-variants as found
-use Rattle.reading.specs.Told.{refusedRead}
+use Rattle.reading.specs.TextAnswers.{refusedRead}
 use Rattle.reading.specs.declared.State.{State}
 use Rattle.reading.specs.declared.State.the-variants.{Awaited, Rows, Whole, Refused}
 use Rattle.reading.specs.declared.Moved.{Moved}

@@ -5,7 +5,7 @@ ghost use Prim.Native.Nat.{_≤_, _<_};
 ghost use Rattle.rules.specs.Walk.{read};
 ghost use Rattle.rules.specs.Layout.{mostRows};
 ghost use Rattle.book.specs.Book.{tableOf};
-ghost use Rattle.reading.specs.Told.{told, refusedRead};
+ghost use Rattle.reading.specs.TextAnswers.{told, refusedRead};
 ghost use Rattle.reading.specs.Moved.{rowless, afterShip, afterFound, afterWhole, moved, withRow, finished};
 use blocks::Begun;
 use blocks::refusal;

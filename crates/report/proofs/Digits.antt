@@ -9,7 +9,7 @@ use lib.Arith.{mod-mul, digits-div, digits-mod}
 use lib.ListN.{length, drop, set, length-set}
 use lib.Seq.{drop-cons, drop-set-lt, getD-set-same}
 use Rattle.rules.specs.Numbers.{digits}
-use Rattle.rules.proofs.Numbers.{pow-pos}
+use Rattle.rules.proofs.layout.Numbers.{pow-pos}
 
 -- What is left of a number after one byte more.
 pub rest-more : (k v : ℕ) → v / 256 ^ k / 256 ≡ v / 256 ^ suc k

@@ -9,8 +9,8 @@ use Rattle.rules.specs.Numbers.{digits, twos}
 use Rattle.rules.specs.Text.{LF, hex}
 use Rattle.rules.specs.Blocks.{block}
 use Rattle.rules.specs.Report.{concat, reportTag, reportBody, reportLine, reportLength}
-use Rattle.rules.proofs.Numbers.{length-digits}
-use Rattle.rules.proofs.Lines.{length-hex}
+use Rattle.rules.proofs.layout.Numbers.{length-digits}
+use Rattle.rules.proofs.layout.Lines.{length-hex}
 use Rattle.report.proofs.Parts.{concat-length}
 
 module _ (number line offset : ℕ) (verdicts : List ℕ) (figures : List ℤ) (eight : length verdicts ≡ 8) (eleven : length figures ≡ 11) where

@@ -6,8 +6,8 @@ use native.Mathlib.Nat.{mul-le-mul, mul-le-mul-left}
 use lib.IntN.{natAbs}
 use Rattle.rules.specs.Curve.{Loaded}
 use Rattle.rules.specs.Roll.{p, r, phi1, notJudged}
-use Rattle.rules.proofs.Roll.{product}
-use Rattle.rules.proofs.Ranges.{s-range, p-range, judged, r-range, phi1-judged, phi1-from}
+use Rattle.rules.proofs.criteria.Roll.{product}
+use Rattle.rules.proofs.criteria.Ranges.{s-range, p-range, judged, r-range, phi1-judged, phi1-from}
 
 module _ (c : Loaded) (h : notJudged c ≡ false) where
   -- ---- the product, factor by factor

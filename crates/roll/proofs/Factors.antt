@@ -5,8 +5,8 @@ use native.Mathlib.Nat.{mul-le-mul}
 use Rattle.rules.specs.Rounding.{ceil}
 use Rattle.rules.specs.Curve.{Loaded}
 use Rattle.rules.specs.Roll.{k, x1, x2}
-use Rattle.rules.proofs.Rounding.{ceil-is, ceiling-least}
-use Rattle.rules.proofs.Ranges.{k-range, x1-range, x2-range}
+use Rattle.rules.proofs.rounding.Rounding.{ceil-is, ceiling-least}
+use Rattle.rules.proofs.criteria.Ranges.{k-range, x1-range, x2-range}
 
 module _ (c : Loaded) where
   pub kx-to : k c * x1 c ≤ 1_000_000

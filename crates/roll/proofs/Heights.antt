@@ -8,8 +8,8 @@ use mir.Val.{SFits}
 use Rattle.rules.specs.Rounding.{ceilZ}
 use Rattle.rules.specs.Curve.{Loaded}
 use Rattle.rules.specs.Roll.{rOf, r}
-use Rattle.rules.proofs.Signed.{up, dn, Le, sub-is, up-add, dn-add, up-mull, dn-mull, up-neg, dn-neg, mag-le}
-use Rattle.rules.proofs.Rounding.{CeilingZ, ceilZ-is, ceilingZ-least, ceilingZ-from}
+use Rattle.rules.proofs.rounding.Signed.{up, dn, Le, sub-is, up-add, dn-add, up-mull, dn-mull, up-neg, dn-neg, mag-le}
+use Rattle.rules.proofs.rounding.Rounding.{CeilingZ, ceilZ-is, ceilingZ-least, ceilingZ-from}
 use Rattle.roll.proofs.Limits.{Sized}
 
 -- Both parts of a number are at most n.

@@ -5,23 +5,23 @@ use Prim.Native.Nat.{_*_, _≤_, _<_}
 use lib.Dec.{leb, ltb}
 use borrow.Author.Tests.{le-leb, lt-leb, le-ltb, leb-false}
 use Rattle.rules.specs.Curve.{Loaded}
-use Rattle.rules.specs.Roll.{period, longestPeriod, phi1, notJudged}
+use Rattle.rules.specs.Roll.{period, longestPeriod, phi1, outsideRange, notJudged}
 use Rattle.roll.specs.declared.Roll.the-variants.{NotJudged, Angle}
-use Rattle.roll.specs.Rolls.{outside, rollOf}
+use Rattle.roll.specs.Rolls.{rollOf}
 
 module _ (c : Loaded) where
   -- The period is what is left to ask.
-  by-period : notJudged c ≡ outside c || leb longestPeriod (period c)
-  unfolding notJudged outside
+  by-period : notJudged c ≡ outsideRange c || leb longestPeriod (period c)
+  unfolding notJudged
   by-period = refl
 
-  pub slow : outside c ≡ false → longestPeriod ≤ period c → notJudged c ≡ true
+  pub slow : outsideRange c ≡ false → longestPeriod ≤ period c → notJudged c ≡ true
   slow o h = by-period ∙ simp (o, le-leb longestPeriod (period c) h)
 
-  pub swift : outside c ≡ false → period c < longestPeriod → notJudged c ≡ false
+  pub swift : outsideRange c ≡ false → period c < longestPeriod → notJudged c ≡ false
   swift o h = by-period ∙ simp (o, lt-leb longestPeriod (period c) h)
 
-  pub off : outside c ≡ true → notJudged c ≡ true
+  pub off : outsideRange c ≡ true → notJudged c ≡ true
   off o = by-period ∙ simp o
 
   pub roll-is : (t : Bool) → notJudged c ≡ t → elim t [ true ↦ NotJudged | false ↦ Angle (phi1 c) ] ≡ rollOf c
@@ -29,13 +29,13 @@ module _ (c : Loaded) where
   roll-is t e = ap (λ (t : Bool). elim t [ true ↦ NotJudged | false ↦ Angle (phi1 c) ]) (sym e)
 
   -- KG too high above the waterline is what is left to ask of the form.
-  pub by-height : c .kg < c .km → 10 * c .ship .breadth < 35 * c .draught → 7 * c .draught ≤ 10 * c .kg → ltb (15 * c .draught) (10 * c .kg) ≡ outside c
-  unfolding outside
+  pub by-height : c .kg < c .km → 10 * c .ship .breadth < 35 * c .draught → 7 * c .draught ≤ 10 * c .kg → ltb (15 * c .draught) (10 * c .kg) ≡ outsideRange c
+  unfolding outsideRange
   by-height h k l = simp (lt-leb (c .km) (c .kg) h, lt-leb (35 * c .draught) (10 * c .ship .breadth) k, le-ltb (10 * c .kg) (7 * c .draught) l)
 
   -- GM is above 0.
-  pub stable : outside c ≡ false → c .kg < c .km
-  unfolding outside
+  pub stable : outsideRange c ≡ false → c .kg < c .km
+  unfolding outsideRange
   stable o = leb-false (c .km) (c .kg) (first (leb (c .km) (c .kg)) (leb (35 * c .draught) (10 * c .ship .breadth)) (ltb (10 * c .kg) (7 * c .draught)) (ltb (15 * c .draught) (10 * c .kg)) o)
     where
       first : (v w x y : Bool) → v || w || x || y ≡ false → v ≡ false

@@ -7,7 +7,7 @@ use mathlib.Core.Bool.{Bool, true, false}
 use lib.Dec.{leb}
 use borrow.Author.Tests.{le-leb, lt-leb, leb-true, leb-false}
 use Rattle.rules.specs.Rounding.{first, greatest}
-use Rattle.rules.proofs.Searches.{First, first-is, first-unique, Greatest, greatest-is}
+use Rattle.rules.proofs.rounding.Searches.{First, first-is, first-unique, Greatest, greatest-is}
 use Rattle.rounding.proofs.Halves.{square-le}
 
 module _ (a product : ℕ) (some : 0 < product) where

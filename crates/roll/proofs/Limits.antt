@@ -8,8 +8,8 @@ use Rattle.rules.specs.Curve.{Loaded}
 use Rattle.rules.specs.Criteria.{lw1, lw2}
 use Rattle.rules.specs.Roll.{b, C, q}
 use Rattle.rules.specs.Ranges.{Fair, rowAt}
-use Rattle.rules.proofs.Rounding.{ceil-is, ceiling-least}
-use Rattle.rules.proofs.Fields.{both-true, Limited, limited}
+use Rattle.rules.proofs.rounding.Rounding.{ceil-is, ceiling-least}
+use Rattle.rules.proofs.layout.Fields.{both-true, Limited, limited}
 
 -- The limits of 01 on what is worked with here.
 pub record Sized (c : Loaded) : Type 0 where

@@ -2,10 +2,10 @@
 ghost use mathlib.Core.Path.{_≡_};
 ghost use mathlib.Core.Bool.{false};
 ghost use Prim.Native.Nat.{_<_};
-ghost use Rattle.rules.specs.Roll.{b as bOf, C as cOf, period as periodOf, k as kOf, p as pOf, r as rOf, phi1 as phi1Of, notJudged};
+ghost use Rattle.rules.specs.Roll.{b as bOf, C as cOf, period as periodOf, k as kOf, p as pOf, r as rOf, phi1 as phi1Of, outsideRange, notJudged};
 ghost use Rattle.rules.specs.Ranges.{Fair};
 ghost use Rattle.book.specs.Book.{loadedOf};
-ghost use Rattle.roll.specs.Rolls.{windLevers, outside as outsideOf, rollOf};
+ghost use Rattle.roll.specs.Rolls.{windLevers, rollOf};
 use book::Loaded;
 
 mod tables;
@@ -103,7 +103,7 @@ fn angle(c: Loaded, b: u64, n: u64) -> u64
 // GM, B/d or KG is outside what is judged.
 fn outside(c: Loaded) -> bool
     requires { ⌜ Fair (loadedOf c) ⌝ }
-    ensures { λ r. ⌜ r ≡ outsideOf (loadedOf c) ⌝ }
+    ensures { λ r. ⌜ r ≡ outsideRange (loadedOf c) ⌝ }
 {
     if c.km <= c.kg {
         return true;

@@ -7,7 +7,7 @@ use native.Mathlib.Omega.{arith}
 use lib.Dec.{leb}
 use borrow.Author.Tests.{lt-leb}
 use Rattle.rules.specs.Rounding.{greatest}
-use Rattle.rules.proofs.Searches.{greatest-is, greatest-unique}
+use Rattle.rules.proofs.rounding.Searches.{greatest-is, greatest-unique}
 
 -- What is searched lies from `low`, which passes, to below `high`, from where on none passes.
 pub record Bracket (p : ℕ → Bool) (top low high : ℕ) : Type 0 where

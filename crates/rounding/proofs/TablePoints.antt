@@ -8,9 +8,9 @@ use lib.Dec.{leb, ltb}
 use lib.ListN.{length, getD, drop, length-drop}
 use lib.Seq.{drop-cons}
 use borrow.Author.Tests.{leb-true, ltb-true}
-use Rattle.rules.specs.Rounding.{Way, Point, point, line, onward, table}
-use Rattle.rules.proofs.Fields.{both-true}
-use Rattle.rules.proofs.Tables.{near, far}
+use Rattle.rules.specs.Rounding.{Direction, Point, point, line, onward, table}
+use Rattle.rules.proofs.layout.Fields.{both-true}
+use Rattle.rules.proofs.rounding.Tables.{near, far}
 use Rattle.rounding.specs.Points.{pointsOf, small, tabled}
 
 -- ---- what is asked of a table
@@ -27,7 +27,7 @@ asked s t = let b = both-true (leb 2 (length s)) (small s) t in (leb-true 2 (len
 abbrev pub pointAt : List ℕ → ℕ → Point
 pointAt s i = point (getD s i 0) (getD s (i + 1) 0)
 
-module _ (way : Way) (s : List ℕ) where
+module _ (way : Direction) (s : List ℕ) where
   -- From the point at i on, through those after it.
   abbrev pub from : ℕ → ℕ → ℕ
   from i x = onward way (pointAt s i) (pointsOf (drop (i + 2) s)) x

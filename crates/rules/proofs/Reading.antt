@@ -9,21 +9,21 @@ use Rattle.rules.specs.Rounding.{ceil}
 use Rattle.rules.specs.Text.{LF, text, Lines}
 use Rattle.rules.specs.Blocks.{conditionTag}
 use Rattle.rules.specs.Layout.{Entries, Reading, frames, spellText, leaves, mostCharacters, Limits, Allowed}
-use Rattle.rules.specs.Answers.{refused, got}
+use Rattle.rules.specs.Outcome.{refused, got}
 use Rattle.rules.specs.Walk.{linesFrom, read}
 use Rattle.rules.specs.Loading.{flat, mass, moment, freeSurface, displacement, correctedKG, entriesOf}
 use Rattle.rules.specs.Leaves.{sumLeaves, ungrouped, loadedWith}
 use Rattle.rules.specs.Places.{LinesFill, SameBefore, lookedAt}
 use Rattle.rules.specs.Met.{Met, Overruns, NoLine}
 use Rattle.rules.specs.Answer.{judged}
-use Rattle.rules.proofs.Whole.{sound, lines-of-reading, reading-unique}
-use Rattle.rules.proofs.Refused.{number-of-refusal, not-both, unrefused-iff-allowed}
-use Rattle.rules.proofs.Inside.{reading-fills}
-use Rattle.rules.proofs.Sums.{leaves-flat, displacement-leaves, correctedKG-leaves, flat-ungrouped, judged-same}
-use Rattle.rules.proofs.Overrun.{overrun}
-use Rattle.rules.proofs.Drawing.{drawing, drawing-refused}
-use Rattle.rules.proofs.FirstFault.{fault-stands}
-use Rattle.rules.proofs.BadLine.{bad-line}
+use Rattle.rules.proofs.walk.WholeText.{sound, lines-of-reading, reading-unique}
+use Rattle.rules.proofs.walk.Refusals.{number-of-refusal, not-both, unrefused-iff-allowed}
+use Rattle.rules.proofs.layout.InsideParent.{reading-fills}
+use Rattle.rules.proofs.loading.Sums.{leaves-flat, displacement-leaves, correctedKG-leaves, flat-ungrouped, judged-same}
+use Rattle.rules.proofs.walk.Overrun.{overrun}
+use Rattle.rules.proofs.bench.Drawing.{drawing, drawing-refused}
+use Rattle.rules.proofs.walk.FirstFault.{fault-stands}
+use Rattle.rules.proofs.walk.BadLine.{bad-line}
 
 -- ---- which texts are read
 -- A text gets none of refusals 1 to 6 exactly when it is allowed.

@@ -9,7 +9,7 @@ use Rattle.rules.specs.Text as characters
 use Rattle.rules.specs.Blocks as blocks
 use Rattle.rules.specs.Report as lines
 use Rattle.rules.specs.Layout.{Reading}
-use Rattle.rules.specs.Answers.{Ans, refused, got, _>>=_, _>>_}
+use Rattle.rules.specs.Outcome.{Ans, refused, got, _>>=_, _>>_}
 use Rattle.rules.specs.Walk.{read}
 use Rattle.rules.specs.Loading.{weighed}
 use Rattle.rules.specs.Curve.{loaded}

@@ -3,7 +3,7 @@ pub mod Numbers
 pub mod Text
 pub mod Blocks
 pub mod Layout
-pub mod Answers
+pub mod Outcome
 pub mod Walk
 pub mod Parts
 pub mod Places

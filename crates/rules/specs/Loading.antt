@@ -6,7 +6,7 @@ use lib.Dec.{leb, ltb}
 use Rattle.rules.specs.Rounding.{ceil}
 use Rattle.rules.specs.Blocks.{Row, Load, item, tank, Values}
 use Rattle.rules.specs.Layout.{Entries, end, leaf, group, Reading}
-use Rattle.rules.specs.Answers.{Ans, test, _>>=_, _>>_}
+use Rattle.rules.specs.Outcome.{Ans, test, _>>=_, _>>_}
 
 -- An item or a tank with its values.
 pub record Entry : Type 0 where
@@ -53,9 +53,12 @@ freeSurface e = freeSurfaceOf (e .kind) (e .values)
 unfoldable pub displacement : List Entry → ℕ
 displacement es = total mass es
 
--- 'KG = (sum of mass x centre + free surface moments) / W, rounded up.'
+-- 'KG = (sum of mass x centre + free surface moments) / W, rounded up', of the moments together and W.
+abbrev pub kgBy : ℕ → ℕ → ℕ
+kgBy moments w = ceil moments w
+
 unfoldable pub correctedKG : List Entry → ℕ
-correctedKG es = ceil (total moment es + total freeSurface es) (displacement es)
+correctedKG es = kgBy (total moment es + total freeSurface es) (displacement es)
 
 -- The W of the first row, and of the last.
 unfoldable pub firstMass : List Row → ℕ
@@ -78,9 +81,12 @@ greatestKG = 60_000
 abbrev pub entriesOf : Reading → List Entry
 entriesOf r = flat (r .condition .load)
 
--- '.. then 7; then 8.' 'For 7, 8 and 9 both are 0.'
+-- '.. then 7; then 8.' 'For 7, 8 and 9 both are 0.' Of a table, W and KG.
+unfoldable pub weighedAt : List Row → ℕ → ℕ → Ans (Unit {0})
+weighedAt rows w kg = do
+  test (inTable rows w) 7 0 0
+  test (leb kg greatestKG) 8 0 0
+
 unfoldable pub weighed : Reading → Ans (Unit {0})
-unfolding flat total displacement correctedKG firstMass lastMass inTable test _>>=_ _>>_
-weighed r = do
-  test (inTable (r .rows) (displacement (entriesOf r))) 7 0 0
-  test (leb (correctedKG (entriesOf r)) greatestKG) 8 0 0
+unfolding flat total displacement correctedKG firstMass lastMass inTable weighedAt test _>>=_ _>>_
+weighed r = weighedAt (r .rows) (displacement (entriesOf r)) (correctedKG (entriesOf r))

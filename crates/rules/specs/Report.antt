@@ -43,7 +43,7 @@ pub record Judgement : Type 0 where
   pub figures : List ℤ
 
 unfoldable pub judgement : Loaded → Judgement
-unfolding rounding.onward rounding.table rounding.first rounding.firstIn rounding.greatest rounding.peak rounding.sumZ curve.lever curve.leverZ curve.area criteria.area1 criteria.area2 criteria.area3 criteria.greatestLever criteria.angleOfGreatest criteria.lw1 criteria.lw2 criteria.reaches criteria.phi0 criteria.passes1 criteria.passes2 criteria.passes3 criteria.passes4 criteria.passes5 criteria.passes6 criteria.passes7 roll.b roll.C roll.q roll.period roll.keelIndex roll.k roll.x1 roll.x2 roll.s roll.p roll.rOf roll.phi1 roll.start roll.u roll.stays roll.e roll.net roll.notJudged roll.noGust roll.passes8 verdict8 where8
+unfolding rounding.onward rounding.table rounding.first rounding.firstIn rounding.greatest rounding.peak rounding.sumZ curve.lever curve.leverZ curve.area criteria.area1 criteria.area2 criteria.area3 criteria.greatestLever criteria.angleOfGreatest criteria.lw1 criteria.lw2 criteria.reaches criteria.phi0 criteria.passes1 criteria.passes2 criteria.passes3 criteria.passes4 criteria.passes5 criteria.passes6 criteria.passes7 roll.b roll.C roll.q roll.period roll.keelIndex roll.k roll.x1 roll.x2 roll.s roll.p roll.rOf roll.phi1 roll.start roll.u roll.stays roll.e roll.net roll.outsideRange roll.notJudged roll.noGust roll.passes8 verdict8 where8
 judgement c = record {
   verdicts = verdict (passes1 c) ∷ verdict (passes2 c) ∷ verdict (passes3 c) ∷ verdict (passes4 c) ∷ verdict (passes5 c) ∷ verdict (passes6 c) ∷ verdict (passes7 c) ∷ verdict8 c ∷ [];
   figures =

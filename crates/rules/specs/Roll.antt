@@ -107,10 +107,13 @@ unfoldable pub net : Loaded → ℤ
 net c = area (y c) (start c) (pos (e c)) -ℤ pos 2 *ℤ units (lw2 c) *ℤ (pos (e c) -ℤ start c)
 
 -- ---- the verdict
--- 'Not judged (2) if GM <= 0, 10 B >= 35 d, KG outside 7d/10..15d/10 (ends judged), or n >= 2000.'
+-- 'GM <= 0, 10 B >= 35 d, KG outside 7d/10..15d/10 (ends judged)'.
+unfoldable pub outsideRange : Loaded → Bool
+outsideRange c = leb (c .km) (c .kg) || leb (35 * c .draught) (10 * c .ship .breadth) || ltb (10 * c .kg) (7 * c .draught) || ltb (15 * c .draught) (10 * c .kg)
+
+-- 'Not judged (2) if' so, 'or n >= 2000'.
 unfoldable pub notJudged : Loaded → Bool
-notJudged c =
-    leb (c .km) (c .kg) || leb (35 * c .draught) (10 * c .ship .breadth) || ltb (10 * c .kg) (7 * c .draught) || ltb (15 * c .draught) (10 * c .kg) || leb longestPeriod (period c)
+notJudged c = outsideRange c || leb longestPeriod (period c)
 
 -- 'Otherwise fail if phi0 is none'; 'u .. none: fail'.
 unfoldable pub noGust : Loaded → Bool

@@ -16,8 +16,8 @@ ceilZ (pos n) d = pos (ceil n d)
 ceilZ (negsuc n) d = negℤ (pos (suc n / d))
 
 -- Which way a value of a table is rounded.
-pub data Way : Type 0 where
-  down up : Way
+pub data Direction : Type 0 where
+  down up : Direction
 
 -- A point of a table: at this place, this value.
 pub record Point : Type 0 where
@@ -36,21 +36,21 @@ abbrev pub span : Point → Point → ℕ → ℕ
 span p q x = p .value * (q .place - x) + q .value * (x - p .place)
 
 -- What is added before the division, so that it rounds the way it should.
-abbrev pub carry : Way → ℕ → ℕ
+abbrev pub carry : Direction → ℕ → ℕ
 carry down d = 0
 carry up d = d - 1
 
 -- 'Linear between points': the straight line at x, rounded.
-abbrev pub line : Way → Point → Point → ℕ → ℕ
+abbrev pub line : Direction → Point → Point → ℕ → ℕ
 line way p q x = (span p q x + carry way (gap p q)) / gap p q
 
 -- From the point p on, through the others; flat beyond the last.
-unfoldable pub onward : Way → Point → List Point → ℕ → ℕ
+unfoldable pub onward : Direction → Point → List Point → ℕ → ℕ
 onward way p [] x = p .value
 onward way p (q ∷ qs) x = elim (ltb x (q .place)) [ true ↦ line way p q x | false ↦ onward way q qs x ]
 
 -- 'Tables linear between points, flat beyond': flat before the first point too.
-unfoldable pub table : Way → List Point → ℕ → ℕ
+unfoldable pub table : Direction → List Point → ℕ → ℕ
 table way [] x = 0
 table way (p ∷ ps) x = onward way p ps (max x (p .place))
 

@@ -9,7 +9,7 @@ use Rattle.rules.specs.Numbers.{num, full}
 use Rattle.rules.specs.Text.{LF}
 use Rattle.rules.specs.Blocks.{Layout, ok, values, within, size, Ship, ship, Row, row, conditionTag, Weather, weather, Load, item, tank, Values, entry, groupTag}
 use Rattle.rules.specs.Layout.{Entries, end, leaf, group, leaves, Condition, Reading, fewestRows, mostRows, mostDepth, mostEntries, mostBytes, mostCharacters}
-use Rattle.rules.specs.Answers.{Ans, refused, got, test, _>>=_, _>>_}
+use Rattle.rules.specs.Outcome.{Ans, refused, got, test, _>>=_, _>>_}
 
 -- ---- 1: over 12,000 characters (line 0), else the first line that isn't a line
 -- The value of a digit 0-9 A-F.

@@ -1,11 +1,7 @@
--- A stream of texts: what a length is, and what is known of the next text. (Which bytes were read no contract can say.)
-use Prim.Native.Nat.{ℕ, _+_, _*_, _≤_}
+-- A stream of texts: what is known of the next text. (Which bytes were read no contract can say.)
+use Prim.Native.Nat.{ℕ, _≤_}
 use Rattle.stream.specs.declared.Next.{Next}
 use Rattle.stream.specs.declared.Next.the-variants as next
-
--- Four bytes, the highest first.
-abbrev pub lengthOf : ℕ → ℕ → ℕ → ℕ → ℕ
-lengthOf a b c d = 16_777_216 * a + 65_536 * b + 256 * c + d
 
 -- A text lies within the buffer.
 abbrev pub Fits : Next → ℕ → Type 0

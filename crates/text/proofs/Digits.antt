@@ -7,10 +7,10 @@ use native.Mathlib.Omega.{arith}
 use lib.Dec.{leb, eqb}
 use borrow.Author.Tests.{leb-true, ne-eqb}
 use Rattle.rules.specs.Text.{LF}
-use Rattle.rules.specs.Answers.{Ans, refused, got, _>>=_}
+use Rattle.rules.specs.Outcome.{Ans, refused, got, _>>=_}
 use Rattle.rules.specs.Walk.{nibble, unhex}
-use Rattle.rules.proofs.Answers.{bind-got, bind-refused}
-use Rattle.rules.proofs.Fields.{both-true}
+use Rattle.rules.proofs.walk.Outcome.{bind-got, bind-refused}
+use Rattle.rules.proofs.layout.Fields.{both-true}
 use Rattle.text.specs.Line.{valueOf, digitOf, byteOf, pairOf}
 use Rattle.text.specs.declared.Digit.{Digit}
 use Rattle.text.specs.declared.Digit.the-variants as digit
@@ -18,8 +18,8 @@ use Rattle.text.specs.declared.Pair.{Pair}
 use Rattle.text.specs.declared.Pair.the-variants as pair
 
 -- A character between a and something is a or more.
-pub low-enough : (a c : ℕ) (x : Bool) {b : Bool} → b ≡ (leb a c && x) → b ≡ true → a ≤ c
-low-enough a c x e t = leb-true a c (both-true (leb a c) x (sym e ∙ t) .0)
+pub low-enough : (a c : ℕ) (x : Bool) → (leb a c && x) ≡ true → a ≤ c
+low-enough a c x e = leb-true a c (both-true (leb a c) x e .0)
 
 pub digit-lt : (c v : ℕ) → digit.Value v ≡ digitOf c → v < 16
 unfolding digitOf nibble

@@ -9,9 +9,9 @@ use lib.ListN.{length, drop, length-append, length-drop}
 use lib.Seq.{drop-drop, take-append-seam}
 use Rattle.rules.specs.Numbers.{full}
 use Rattle.rules.specs.Text.{LF}
-use Rattle.rules.specs.Answers.{refused, got, test, _>>=_, _>>_}
+use Rattle.rules.specs.Outcome.{refused, got, test, _>>=_, _>>_}
 use Rattle.rules.specs.Walk.{unhex, Pieces, put, split, decode, linesFrom}
-use Rattle.rules.proofs.Answers.{refused-got, bind-got, bind-refused, test-got, test-refused}
+use Rattle.rules.proofs.walk.Outcome.{refused-got, bind-got, bind-refused, test-got, test-refused}
 use Rattle.text.specs.Line.{pairOf, before, decoded, over, ended, lineOf, LineIs}
 use Rattle.text.specs.declared.Pair.{Pair}
 use Rattle.text.specs.declared.Pair.the-variants as pair

@@ -6,7 +6,7 @@ use Prim.Native.Nat.{ℕ, zero, suc, _+_, _*_, _≤_, _<_}
 use lib.Dec.{eqb}
 use lib.ListN.{length, take, drop}
 use Rattle.rules.specs.Text.{LF}
-use Rattle.rules.specs.Answers.{Ans, refused, got, _>>=_}
+use Rattle.rules.specs.Outcome.{Ans, refused, got, _>>=_}
 use Rattle.rules.specs.Walk.{nibble, linesFrom}
 use Rattle.text.specs.declared.Digit.{Digit}
 use Rattle.text.specs.declared.Digit.the-variants as digit

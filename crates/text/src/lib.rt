@@ -1,10 +1,10 @@
 // Characters: the line at the front of a text, decoded into a buffer with one look at each of its characters.
 ghost use mathlib.Core.Path.{_≡_};
-ghost use mathlib.Core.Bool.{_&&_};
 ghost use Prim.Native.Nat.{_*_, _≤_};
 ghost use lib.ListN.{length};
-ghost use lib.Dec.{leb};
 ghost use Rattle.text.specs.Line.{digitOf, pairOf, decoded, over, ended, lineOf};
+use numbers::fits;
+use numbers::wide;
 
 pub enum Digit {
     Value(u8),
@@ -25,26 +25,15 @@ pub enum LineRead {
     End,
 }
 
-fn both(a: bool, b: bool) -> bool
-    ensures { λ r. ⌜ r ≡ (a && b) ⌝ }
-{
-    a && b
-}
-
-fn between(c: u8, low: u8, high: u8) -> bool
-    ensures { λ r. ⌜ r ≡ (leb low c && leb c high) ⌝ }
-{
-    both(low <= c, c <= high)
-}
-
-// The value of a digit 0-9 A-F.
+// The value of a digit 0-9 A-F: '0' to '9' are 48 to 57, 'A' to 'F' 65 to 70.
 fn digit_of(c: u8) -> Digit
     ensures { λ r. ⌜ r ≡ digitOf c ⌝ }
 {
-    if between(c, b'0', b'9') {
+    let code = wide(c);
+    if fits(code, 48, 57) {
         return Digit::Value(c - b'0');
     }
-    if between(c, b'A', b'F') {
+    if fits(code, 65, 70) {
         return Digit::Value(c - b'A' + 10);
     }
     Digit::Not

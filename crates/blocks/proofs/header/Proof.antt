@@ -2,8 +2,8 @@
 use mathlib.Core.Path.{ap, sym}
 use native.Mathlib.Omega.{arith}
 use borrow.Author.Needs.{needs}
-use Rattle.rules.proofs.Parts.{header-short, header-over}
-use Rattle.blocks.specs.Told.{begunOf}
+use Rattle.rules.proofs.layout.Parts.{header-short, header-over}
+use Rattle.blocks.specs.BlockAnswers.{begunOf}
 use Rattle.blocks.proofs.Heads.{begins}
 use Rattle.blocks.proofs.header.Statement.{statement}
 use Rattle.blocks.proofs.header.Tie as tie

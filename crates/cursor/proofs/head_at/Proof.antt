@@ -2,7 +2,7 @@
 use mathlib.Core.Path.{ap, sym}
 use borrow.Author.Needs.{needs}
 use Rattle.blocks.proofs.Heads.{head-short, head-block}
-use Rattle.cursor.specs.Told.{headOf}
+use Rattle.cursor.specs.BlockParts.{headOf}
 use Rattle.cursor.proofs.Heads.{block-head}
 use Rattle.cursor.proofs.head_at.Statement.{statement}
 use Rattle.cursor.proofs.head_at.Tie as tie

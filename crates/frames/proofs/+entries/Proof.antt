@@ -9,16 +9,16 @@ use borrow.Fn.Kinds.{In}
 use borrow.Fn.PlainCycle.{Measures, is, falls, and}
 use denote.Ref.{now}
 use Rattle.rules.specs.Layout.{mostEntries}
-use Rattle.rules.specs.Answers.{got}
+use Rattle.rules.specs.Outcome.{got}
 use Rattle.rules.specs.Walk.{header, blockAt, entries}
 use Rattle.rules.specs.Parts.{part, headAt}
-use Rattle.rules.proofs.Parts.{length-part}
-use Rattle.rules.proofs.Walked.{nest-inv}
-use Rattle.rules.proofs.Ways.{entries-empty, entries-short, block-refused, block-entry, group-refused, group-got}
+use Rattle.rules.proofs.layout.Parts.{length-part}
+use Rattle.rules.proofs.walk.Entries.{nest-inv}
+use Rattle.rules.proofs.walk.BlockExits.{entries-empty, entries-short, block-refused, block-entry, group-refused, group-got}
 use Rattle.book.specs.declared.Sums.{Sums}
-use Rattle.blocks.specs.Told.{blockOf}
+use Rattle.blocks.specs.BlockAnswers.{blockOf}
 use Rattle.cursor.proofs.Heads.{begins-refused, begins-block}
-use Rattle.frames.specs.Told.{loadRead}
+use Rattle.frames.specs.FrameAnswers.{loadRead}
 use Rattle.frames.specs.declared.LoadRead.the-variants.{Sum, Refused}
 use Rattle.frames.proofs.Adding.{plus-end}
 use Rattle.frames.proofs.Bounds.{plus-bounded, each-byte}

@@ -2,8 +2,8 @@
 use mathlib.Core.Path.{ap, sym, _∙_}
 use borrow.Author.Needs.{needs}
 use denote.Ref.{now}
-use Rattle.rules.proofs.FrameWays.{condition-longer, condition-over, condition-whole}
-use Rattle.frames.specs.Told.{conditionRead}
+use Rattle.rules.proofs.walk.FrameExits.{condition-longer, condition-over, condition-whole}
+use Rattle.frames.specs.FrameAnswers.{conditionRead}
 use Rattle.frames.proofs.condition_in.Statement.{statement}
 use Rattle.frames.proofs.condition_in.Tie as tie
 

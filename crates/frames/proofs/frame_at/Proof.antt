@@ -5,12 +5,12 @@ use Prim.Native.Nat.{ℕ, _+_, _≤_}
 use lib.ListN.{length}
 use borrow.Author.Needs.{needs}
 use denote.Ref.{now}
-use Rattle.rules.specs.Answers.{got}
+use Rattle.rules.specs.Outcome.{got}
 use Rattle.rules.specs.Walk.{header}
 use Rattle.rules.specs.Parts.{headAt}
-use Rattle.rules.proofs.FrameWays.{frame-short, frame-tag, frame-many, frame-row, frame-few, frame-condition}
+use Rattle.rules.proofs.walk.FrameExits.{frame-short, frame-tag, frame-many, frame-row, frame-few, frame-condition}
 use Rattle.blocks.proofs.Heads.{head-short, head-block}
-use Rattle.frames.specs.Told.{frameRead}
+use Rattle.frames.specs.FrameAnswers.{frameRead}
 use Rattle.frames.proofs.Frame.{row-as-frame, condition-as-frame}
 use Rattle.frames.proofs.frame_at.Statement.{statement}
 use Rattle.frames.proofs.frame_at.Tie as tie

@@ -6,16 +6,16 @@ use native.Mathlib.Omega.{arith}
 use lib.ListN.{length}
 use borrow.Author.Needs.{needs}
 use denote.Ref.{now}
-use Rattle.rules.specs.Answers.{got}
+use Rattle.rules.specs.Outcome.{got}
 use Rattle.rules.specs.Walk.{header, weatherAt, loadAt}
 use Rattle.rules.specs.Parts.{part, headAt}
-use Rattle.rules.proofs.Answers.{bind-got, bind-refused}
-use Rattle.rules.proofs.Parts.{length-part}
-use Rattle.rules.proofs.FrameWays.{inside-none, inside-short, inside-block}
-use Rattle.blocks.specs.Told.{weatherRead}
+use Rattle.rules.proofs.walk.Outcome.{bind-got, bind-refused}
+use Rattle.rules.proofs.layout.Parts.{length-part}
+use Rattle.rules.proofs.walk.FrameExits.{inside-none, inside-short, inside-block}
+use Rattle.blocks.specs.BlockAnswers.{weatherRead}
 use Rattle.cursor.proofs.Heads.{begins-refused, begins-block}
 use Rattle.frames.specs.Sums.{none}
-use Rattle.frames.specs.Told.{conditionRead, loadRead, loaded}
+use Rattle.frames.specs.FrameAnswers.{conditionRead, loadRead, loaded}
 use Rattle.frames.specs.declared.ConditionRead.the-variants.{Refused}
 use Rattle.frames.proofs.Frame.{weather-refused, weather-got, condition-loaded}
 use Rattle.frames.proofs.inside.Statement.{statement}

@@ -3,9 +3,9 @@ use mathlib.Core.Path.{ap, sym, _∙_}
 use native.Mathlib.Omega.{arith}
 use borrow.Author.Needs.{needs}
 use denote.Ref.{now}
-use Rattle.rules.proofs.FrameWays.{load-none, load-some}
+use Rattle.rules.proofs.walk.FrameExits.{load-none, load-some}
 use Rattle.frames.specs.Sums.{none}
-use Rattle.frames.specs.Told.{loadRead}
+use Rattle.frames.specs.FrameAnswers.{loadRead}
 use Rattle.frames.proofs.load_at.Statement.{statement}
 use Rattle.frames.proofs.load_at.Tie as tie
 

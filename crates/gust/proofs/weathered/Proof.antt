@@ -10,7 +10,7 @@ use Rattle.rules.specs.Curve.{Loaded}
 use Rattle.rules.specs.Roll.{notJudged, phi1}
 use Rattle.book.specs.Book.{loadedOf}
 use Rattle.roll.proofs.Angles.{angle-range}
-use Rattle.gust.proofs.Ways.{not-judged, no-roll, rolls}
+use Rattle.gust.proofs.Eighth.{not-judged, no-roll, rolls}
 use Rattle.gust.proofs.weathered.Statement.{statement}
 use Rattle.gust.proofs.weathered.Tie as tie
 

@@ -12,8 +12,8 @@ use mir.Facts.{toZ-ofZ}
 use Rattle.rules.specs.Curve.{Loaded, E, y}
 use Rattle.rules.specs.Criteria.{lw2, units, reaches, phi0}
 use Rattle.rules.specs.Roll.{phi1, farthest, u, stays, e}
-use Rattle.rules.proofs.Signed.{le-true}
-use Rattle.rules.proofs.Angles.{u-is}
+use Rattle.rules.proofs.rounding.Signed.{le-true}
+use Rattle.rules.proofs.criteria.Angles.{u-is}
 use Rattle.book.specs.Book.{loadedOf}
 use Rattle.curve.specs.Levers.{held}
 use Rattle.curve.proofs.Curves.{held-is, reaches-held, stays-held}
@@ -22,7 +22,7 @@ use Rattle.gust.specs.declared.Wind.{Wind}
 use Rattle.gust.specs.declared.Gust.the-variants.{Net}
 use Rattle.gust.specs.Gusts.{Blown}
 use Rattle.gust.proofs.Machine.{fits}
-use Rattle.gust.proofs.Ways.{no-heel, never-met, met, has-net}
+use Rattle.gust.proofs.Eighth.{no-heel, never-met, met, has-net}
 use Rattle.gust.proofs.withstood.Statement.{statement}
 use Rattle.gust.proofs.withstood.Tie as tie
 

@@ -2,7 +2,7 @@
 use mathlib.Core.Path.{sym}
 use borrow.Author.Needs.{needs}
 use native.Mathlib.Omega.{arith}
-use Rattle.rules.proofs.Answer.{number-short, written-short}
+use Rattle.rules.proofs.answer.Steps.{number-short, written-short}
 use Rattle.instrument.proofs.Joined.{refused-read, whole-read, place-fits, sent-refused, sent-read}
 use Rattle.instrument.proofs.judge.Statement.{statement}
 use Rattle.instrument.proofs.judge.Tie as tie

@@ -5,7 +5,7 @@ use borrow.Author.Needs.{needs}
 use lib.ListN.{drop}
 use denote.Ref.{now}
 use Rattle.rules.specs.Report.{reportLength, reportLine}
-use Rattle.rules.proofs.Answer.{report-refused}
+use Rattle.rules.proofs.answer.Steps.{report-refused}
 use Rattle.book.specs.declared.Judgement.{Judgement}
 use Rattle.instrument.proofs.refuse.Statement.{statement}
 use Rattle.instrument.proofs.refuse.Tie as tie

@@ -5,7 +5,7 @@ use borrow.Author.Needs.{needs}
 use lib.ListN.{drop}
 use denote.Ref.{now}
 use Rattle.rules.specs.Report.{reportLength, reportLine}
-use Rattle.rules.proofs.Answer.{report-judged}
+use Rattle.rules.proofs.answer.Steps.{report-judged}
 use Rattle.book.specs.declared.Judgement.{Judgement}
 use Rattle.instrument.proofs.send.Statement.{statement}
 use Rattle.instrument.proofs.send.Tie as tie

@@ -6,7 +6,7 @@ use lib.Seq.{length-take-le}
 use lib.ListN.{length}
 use borrow.Author.Needs.{needs}
 use denote.Ref.{now}
-use Rattle.reading.specs.Told.{refusedRead, told}
+use Rattle.reading.specs.TextAnswers.{refusedRead, told}
 use Rattle.reading.specs.declared.State.the-variants.{Awaited}
 use Rattle.text.specs.Line.{Leads, LineIs}
 use Rattle.rules.specs.Walk.{read}

@@ -9,7 +9,7 @@ use Rattle.rules.specs.Text.{LF, hex}
 use Rattle.rules.specs.Blocks.{block}
 use Rattle.rules.specs.Report.{reportTag, reportBody, reportLine}
 use Rattle.report.proofs.Parts.{stored}
-use Rattle.rules.proofs.Lines.{length-hex}
+use Rattle.rules.proofs.layout.Lines.{length-hex}
 use Rattle.report.proofs.write.Statement.{statement}
 use Rattle.report.proofs.write.Tie as tie
 

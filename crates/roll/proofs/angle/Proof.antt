@@ -8,8 +8,8 @@ use mir.ValLaws.{toZ-ofZ}
 use Rattle.rules.specs.Rounding.{up, table}
 use Rattle.rules.specs.Curve.{Loaded}
 use Rattle.rules.specs.Roll.{S, s, r, phi1}
-use Rattle.rules.proofs.Roll.{product}
-use Rattle.rules.proofs.Ranges.{p-range, judged, r-range, product-from}
+use Rattle.rules.proofs.criteria.Roll.{product}
+use Rattle.rules.proofs.criteria.Ranges.{p-range, judged, r-range, product-from}
 use Rattle.book.specs.Book.{loadedOf}
 use Rattle.roll.proofs.LeastSquare.{least-square}
 use Rattle.roll.proofs.Angles.{pp-to, ppr-to, product-to, angle-range}

@@ -1,7 +1,7 @@
 -- `roll::outside` meets its contract: each way out is a test of the rules. Assumes nothing.
 use native.Mathlib.Omega.{arith}
 use borrow.Author.Tests.{le-leb, lt-leb, lt-ltb}
-use Rattle.roll.specs.Rolls.{outside}
+use Rattle.rules.specs.Roll.{outsideRange}
 use Rattle.roll.proofs.Limits.{sized}
 use Rattle.roll.proofs.Judged.{by-height}
 use borrow.Author.Needs.{needs}
@@ -9,7 +9,7 @@ use Rattle.roll.proofs.outside.Statement.{statement}
 use Rattle.roll.proofs.outside.Tie as tie
 
 returns : tie.Need-returns
-unfolding outside
+unfolding outsideRange
 returns c = simp (le-leb _ _ (c .if1 .taken))
 
 mul-if2 : tie.Need-mul-if2
@@ -19,7 +19,7 @@ mul-if2-2 : tie.Need-mul-if2-2
 mul-if2-2 c = omega (arith, sized _ (c .before .before .before .before .pre))
 
 returns-2 : tie.Need-returns-2
-unfolding outside
+unfolding outsideRange
 returns-2 c = simp (lt-leb _ _ (c .before .before .before .if1 .left), le-leb _ _ (c .if2 .taken))
 
 mul-if3 : tie.Need-mul-if3
@@ -29,7 +29,7 @@ mul-if3-2 : tie.Need-mul-if3-2
 mul-if3-2 c = omega (arith, sized _ (c .before .before .before .before .before .before .before .pre))
 
 returns-3 : tie.Need-returns-3
-unfolding outside
+unfolding outsideRange
 returns-3 c = simp (lt-leb _ _ (c .before .before .before .before .before .before .if1 .left), lt-leb _ _ (c .before .before .before .if2 .left), lt-ltb _ _ (c .if3 .taken))
 
 mul-result : tie.Need-mul-result

@@ -4,14 +4,14 @@ use mathlib.Core.Bool.{true, false}
 use Rattle.rules.specs.Roll.{notJudged}
 use Rattle.book.specs.Book.{loadedOf}
 use Rattle.roll.specs.declared.Roll.the-variants.{Angle}
-use Rattle.roll.specs.Rolls.{outside}
+use Rattle.rules.specs.Roll.{outsideRange}
 use Rattle.roll.proofs.Judged.{off, slow, swift, stable, roll-is}
 use native.Mathlib.Omega.{arith}
 use borrow.Author.Needs.{needs}
 use Rattle.roll.proofs.rolling.Statement.{statement}
 use Rattle.roll.proofs.rolling.Tie as tie
 
-inside : (c : tie.Else1) → outside (loadedOf (c .before .before .args .c)) ≡ false
+inside : (c : tie.Else1) → outsideRange (loadedOf (c .before .before .args .c)) ≡ false
 inside c = sym (c .before .outside .ensures) ∙ c .if1 .left
 
 judged : (c : tie.Else2) → notJudged (loadedOf (c .before .before .before .before .before .args .c)) ≡ false

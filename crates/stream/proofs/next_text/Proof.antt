@@ -17,20 +17,11 @@ returns c = search needs
 returns-2 : tie.Need-returns-2
 returns-2 c = search needs
 
-array-read-length-of : tie.Need-array-read-length-of
-array-read-length-of c = search needs
+slice-aggregate-u32-at : tie.Need-slice-aggregate-u32-at
+slice-aggregate-u32-at c = search needs
 
-array-read-length-of-2 : tie.Need-array-read-length-of-2
-array-read-length-of-2 c = search needs
-
-array-read-length-of-3 : tie.Need-array-read-length-of-3
-array-read-length-of-3 c = search needs
-
-array-read-length-of-4 : tie.Need-array-read-length-of-4
-array-read-length-of-4 c = search needs
-
-length-of-requires : tie.Need-length-of-requires
-length-of-requires c κs = search needs
+u32-at-requires : tie.Need-u32-at-requires
+u32-at-requires c κs = search needs
 
 returns-3 : tie.Need-returns-3
 returns-3 c = search needs
@@ -64,11 +55,8 @@ next-text-spec =
     read-full-requires
     returns
     returns-2
-    array-read-length-of
-    array-read-length-of-2
-    array-read-length-of-3
-    array-read-length-of-4
-    length-of-requires
+    slice-aggregate-u32-at
+    u32-at-requires
     returns-3
     slice-relend-prefix-read-full
     slice-aggregate-read-full-2

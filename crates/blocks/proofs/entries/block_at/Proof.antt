@@ -2,7 +2,7 @@
 use mathlib.Core.Path.{ap, sym, _∙_}
 use borrow.Author.Needs.{needs}
 use Rattle.rules.specs.Blocks.{item, tank}
-use Rattle.blocks.specs.Told.{blockOf}
+use Rattle.blocks.specs.BlockAnswers.{blockOf}
 use Rattle.blocks.proofs.Leaves.{block-load, block-group, block-other}
 use Rattle.blocks.proofs.entries.block_at.Statement.{statement}
 use Rattle.blocks.proofs.entries.block_at.Tie as tie

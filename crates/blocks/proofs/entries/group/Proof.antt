@@ -2,8 +2,8 @@
 use mathlib.Core.Path.{ap, sym}
 use native.Mathlib.Omega.{arith}
 use borrow.Author.Needs.{needs}
-use Rattle.rules.proofs.Ways.{begun-deep, begun-empty, begun-nest}
-use Rattle.blocks.specs.Told.{blockOf}
+use Rattle.rules.proofs.walk.BlockExits.{begun-deep, begun-empty, begun-nest}
+use Rattle.blocks.specs.BlockAnswers.{blockOf}
 use Rattle.blocks.proofs.entries.group.Statement.{statement}
 use Rattle.blocks.proofs.entries.group.Tie as tie
 

@@ -2,7 +2,7 @@
 use mathlib.Core.Path.{sym, _∙_}
 use borrow.Author.Needs.{needs}
 use denote.Ref.{now}
-use Rattle.blocks.specs.Told.{loadOf}
+use Rattle.blocks.specs.BlockAnswers.{loadOf}
 use Rattle.blocks.proofs.Leaves.{leaf-length, leaf-full, leaf-outside, leaf-within}
 use Rattle.blocks.proofs.entries.leaf.Statement.{statement}
 use Rattle.blocks.proofs.entries.leaf.Tie as tie

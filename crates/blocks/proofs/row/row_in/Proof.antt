@@ -3,11 +3,11 @@ use mathlib.Core.Path.{ap, sym, _∙_}
 use borrow.Author.Tests.{not-true, not-false}
 use borrow.Author.Needs.{needs}
 use denote.Ref.{now}
-use Rattle.rules.specs.Answers.{got}
+use Rattle.rules.specs.Outcome.{got}
 use Rattle.rules.specs.Blocks.{size, ok, row}
-use Rattle.rules.proofs.FrameWays.{fixedIn-longer, fixedIn-length, fixedIn-outside, fixedIn-within, row-refused, row-low, row-got}
+use Rattle.rules.proofs.walk.FrameExits.{fixedIn-longer, fixedIn-length, fixedIn-outside, fixedIn-within, row-refused, row-low, row-got}
 use Rattle.book.specs.Book.{rowOf}
-use Rattle.blocks.specs.Told.{rowRead}
+use Rattle.blocks.specs.BlockAnswers.{rowRead}
 use Rattle.blocks.proofs.row.row_in.Statement.{statement}
 use Rattle.blocks.proofs.row.row_in.Tie as tie
 

@@ -2,8 +2,8 @@
 use mathlib.Core.Path.{ap, sym, _∙_}
 use borrow.Author.Needs.{needs}
 use denote.Ref.{now}
-use Rattle.rules.proofs.FrameWays.{ship-short, ship-tag, ship-in}
-use Rattle.blocks.specs.Told.{shipRead}
+use Rattle.rules.proofs.walk.FrameExits.{ship-short, ship-tag, ship-in}
+use Rattle.blocks.specs.BlockAnswers.{shipRead}
 use Rattle.blocks.proofs.Heads.{head-short, head-block}
 use Rattle.blocks.proofs.ship.ship_frame.Statement.{statement}
 use Rattle.blocks.proofs.ship.ship_frame.Tie as tie

@@ -3,8 +3,9 @@ use mathlib.Core.Path.{ap, sym, _∙_}
 use borrow.Author.Needs.{needs}
 use denote.Ref.{now}
 use Rattle.rules.specs.Blocks.{size, ok, ship}
-use Rattle.rules.proofs.FrameWays.{fixedIn-longer, fixedIn-length, fixedIn-outside, fixedIn-within}
-use Rattle.blocks.specs.Told.{plainShip, shipRead}
+use Rattle.rules.proofs.walk.FrameExits.{fixedIn-longer, fixedIn-length, fixedIn-outside, fixedIn-within}
+use Rattle.book.specs.Book.{plainShip}
+use Rattle.blocks.specs.BlockAnswers.{shipRead}
 use Rattle.blocks.specs.declared.ship.ShipRead.the-variants.{Within}
 use Rattle.blocks.proofs.ship.ship_in.Statement.{statement}
 use Rattle.blocks.proofs.ship.ship_in.Tie as tie

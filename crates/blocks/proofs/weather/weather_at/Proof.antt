@@ -2,8 +2,9 @@
 use mathlib.Core.Path.{ap, sym, _∙_}
 use borrow.Author.Needs.{needs}
 use Rattle.rules.specs.Blocks.{size, ok, weather}
-use Rattle.rules.proofs.FrameWays.{weather-tag, weather-length, weather-outside, weather-within}
-use Rattle.blocks.specs.Told.{plainWeather, weatherRead}
+use Rattle.rules.proofs.walk.FrameExits.{weather-tag, weather-length, weather-outside, weather-within}
+use Rattle.book.specs.Book.{plainWeather}
+use Rattle.blocks.specs.BlockAnswers.{weatherRead}
 use Rattle.blocks.specs.declared.weather.WeatherRead.the-variants.{Within}
 use Rattle.blocks.proofs.weather.weather_at.Statement.{statement}
 use Rattle.blocks.proofs.weather.weather_at.Tie as tie

@@ -10,7 +10,7 @@ use mir.Val.{toZ, ofZ}
 use mir.Facts.{toZ-pos}
 use Rattle.rules.specs.Curve.{Loaded}
 use Rattle.rules.specs.Criteria.{angleOfGreatest}
-use Rattle.rules.proofs.Angles.{angle-is}
+use Rattle.rules.proofs.criteria.Angles.{angle-is}
 use Rattle.book.specs.Book.{loadedOf}
 use Rattle.curve.proofs.Machine.{back}
 use Rattle.curve.proofs.Curves.{fair-end}

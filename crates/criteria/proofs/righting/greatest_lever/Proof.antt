@@ -6,8 +6,8 @@ use lib.IntN.{pos}
 use mir.Facts.{toZ-ofZ}
 use Rattle.rules.specs.Rounding.{peak}
 use Rattle.rules.specs.Curve.{Loaded, leverZ, y, E}
-use Rattle.rules.proofs.Searches.{peak-is}
-use Rattle.rules.proofs.Angles.{greatest-none}
+use Rattle.rules.proofs.rounding.Searches.{peak-is}
+use Rattle.rules.proofs.criteria.Angles.{greatest-none}
 use Rattle.book.specs.Book.{loadedOf}
 use Rattle.curve.proofs.Curves.{peak-held, fair-end}
 use Rattle.criteria.proofs.Measures.{lever-is}

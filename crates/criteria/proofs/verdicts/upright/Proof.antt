@@ -3,7 +3,7 @@ use native.Mathlib.Omega.{arith}
 use borrow.Author.Needs.{needs}
 use borrow.Author.Tests.{le-leb, lt-leb}
 use Rattle.rules.specs.Criteria.{passes7}
-use Rattle.rules.proofs.Fields.{ok-at}
+use Rattle.rules.proofs.layout.Fields.{ok-at}
 use Rattle.rules.specs.Blocks.{weather}
 use Rattle.criteria.proofs.verdicts.upright.Statement.{statement}
 use Rattle.criteria.proofs.verdicts.upright.Tie as tie

@@ -30,7 +30,7 @@ returns c =
 corrected-kg-requires : tie.Need-corrected-kg-requires
 corrected-kg-requires c κs =
     let s = c .before .before in
-    (afloat (s .args .table) (s .args .sums .mass) (s .pre .whole) (within c), s .pre .light)
+    (afloat (s .args .table) (s .args .sums .mass) (s .pre .whole) (within c), s .pre .machine)
 
 refused-requires-2 : tie.Need-refused-requires-2
 refused-requires-2 c κs = search needs

@@ -21,31 +21,31 @@ abbrev μ-loop : tie.MeasureT-loop
 loop-holds : tie.Need-loop-holds Inv-loop μ-loop
 loop-holds c = (omega arith, refl, filled-none _ _ _)
 
-mul-wide : tie.Need-mul-wide Inv-loop μ-loop
-mul-wide c = search needs
+mul-millimetres : tie.Need-mul-millimetres Inv-loop μ-loop
+mul-millimetres c = search needs
 
-array-read-wide : tie.Need-array-read-wide Inv-loop μ-loop
-array-read-wide c = search needs
+array-read-millimetres : tie.Need-array-read-millimetres Inv-loop μ-loop
+array-read-millimetres c = search needs
 
-wide-requires : tie.Need-wide-requires Inv-loop μ-loop
-wide-requires c κs = search needs
+millimetres-requires : tie.Need-millimetres-requires Inv-loop μ-loop
+millimetres-requires c κs = search needs
 
-mul-wide-2 : tie.Need-mul-wide-2 Inv-loop μ-loop
-mul-wide-2 c = search needs
+mul-millimetres-2 : tie.Need-mul-millimetres-2 Inv-loop μ-loop
+mul-millimetres-2 c = search needs
 
-array-read-wide-2 : tie.Need-array-read-wide-2 Inv-loop μ-loop
-array-read-wide-2 c = search needs
+array-read-millimetres-2 : tie.Need-array-read-millimetres-2 Inv-loop μ-loop
+array-read-millimetres-2 c = search needs
 
-wide-requires-2 : tie.Need-wide-requires-2 Inv-loop μ-loop
-wide-requires-2 c κs = search needs
+millimetres-requires-2 : tie.Need-millimetres-requires-2 Inv-loop μ-loop
+millimetres-requires-2 c κs = search needs
 
 between-requires : tie.Need-between-requires Inv-loop μ-loop
 between-requires c κs =
     let i = c .before .before .before .loop .i in
     let s = c .before .before .before .before .before .before in
     lies-between (s .args .a) (s .args .b) (s .args .w) (s .pre) _ _
-    (omega (arith, c .before .wide .ensures, kn-small (rowOf (s .args .a)) (s .pre .lower) i))
-    (omega (arith, c .wide2 .ensures, kn-small (rowOf (s .args .b)) (s .pre .upper) i))
+    (omega (arith, c .before .millimetres .ensures, kn-small (rowOf (s .args .a)) (s .pre .lower) i))
+    (omega (arith, c .millimetres2 .ensures, kn-small (rowOf (s .args .b)) (s .pre .upper) i))
 
 mul-kn : tie.Need-mul-kn Inv-loop μ-loop
 mul-kn c = search needs
@@ -62,7 +62,7 @@ loop-less c = search needs
 loop-again : tie.Need-loop-again Inv-loop μ-loop
 loop-again c =
     let l = c .before .before .before .before .loop in
-    (omega arith, simp length-set (l .inv .1), filled-more _ _ _ _ _ (search needs) (l .inv .2) (c .between .ensures ∙ rw (c .before .before .wide .ensures, c .before .wide2 .ensures)))
+    (omega arith, simp length-set (l .inv .1), filled-more _ _ _ _ _ (search needs) (l .inv .2) (c .between .ensures ∙ rw (c .before .before .millimetres .ensures, c .before .millimetres2 .ensures)))
 
 returns : tie.Need-returns Inv-loop μ-loop
 returns c =
@@ -77,12 +77,12 @@ kn-between-spec =
     Inv-loop
     μ-loop
     loop-holds
-    mul-wide
-    array-read-wide
-    wide-requires
-    mul-wide-2
-    array-read-wide-2
-    wide-requires-2
+    mul-millimetres
+    array-read-millimetres
+    millimetres-requires
+    mul-millimetres-2
+    array-read-millimetres-2
+    millimetres-requires-2
     between-requires
     mul-kn
     array-write-kn

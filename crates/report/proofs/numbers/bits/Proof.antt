@@ -7,7 +7,7 @@ use mir.Syntax.{w64}
 use mir.Val.{SFits}
 use mir.ValLaws.{toZ-ofZ}
 use borrow.Author.Needs.{needs}
-use Rattle.rules.proofs.Numbers.{twos-lt}
+use Rattle.rules.proofs.layout.Numbers.{twos-lt}
 use Rattle.report.proofs.Below.{less-one, wraps, as-it-is}
 use Rattle.report.proofs.numbers.bits.Statement.{statement}
 use Rattle.report.proofs.numbers.bits.Tie as tie

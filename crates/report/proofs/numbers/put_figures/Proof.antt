@@ -9,7 +9,7 @@ use mir.Syntax.{w64}
 use mir.ValLaws.{toZ-ofZ}
 use borrow.Author.Needs.{needs}
 use Rattle.rules.specs.Numbers.{digits, twos}
-use Rattle.rules.proofs.Numbers.{length-digits}
+use Rattle.rules.proofs.layout.Numbers.{length-digits}
 use Rattle.report.proofs.Parts.{written, written-none, written-more, written-length, written-all}
 use Rattle.report.proofs.numbers.put_figures.Statement.{statement}
 use Rattle.report.proofs.numbers.put_figures.Tie as tie

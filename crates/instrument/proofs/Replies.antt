@@ -1,0 +1,168 @@
+-- What the promises rest on: the number and the report of a text step by step, by what its reading is and where its mass and KG lie.
+use mathlib.Core.Path.{_≡_, refl, ap, _∙_}
+use mathlib.Core.Bool.{Bool, true, false, _&&_}
+use mathlib.Core.List.{List, map}
+use mathlib.Core.Logic.{_↔_, _≢_, inl, inr, ⊎-elim}
+use Prim.Native.Nat.{ℕ, _≤_, _<_}
+use native.Mathlib.Omega.{arith}
+use lib.Dec.{leb}
+use lib.ListN.{length, take, drop}
+use lib.Seq.{take-at, drop-at}
+use borrow.Author.Tests.{leb-true, leb-false}
+use Rattle.rules.specs.Layout.{Reading, Allowed}
+use Rattle.rules.specs.Outcome.{Ans, refused, got, test, _>>_}
+use Rattle.rules.specs.Walk.{read}
+use Rattle.rules.specs.Loading.{weighed, inTable, displacement, correctedKG, firstMass, lastMass, greatestKG, entriesOf}
+use Rattle.rules.specs.Curve.{Loaded, loaded}
+use Rattle.rules.specs.Report.{verdictNumber, judgement, noJudgement, report, reportLength}
+use Rattle.rules.specs.Answer.{judged, answered, numberOf, reportOf, number, written}
+use Rattle.rules.proofs.answer.Steps.{answered-refused, answered-read, judged-refused, judged-weighed, report-refused, report-judged, number-short, written-short, number-room, written-room}
+use Rattle.rules.proofs.walk.Outcome.{test-got, test-refused}
+use Rattle.rules.proofs.walk.WholeText.{sound, complete}
+use Rattle.rules.proofs.walk.Refusals.{number-of-refusal}
+use Rattle.report.proofs.Length.{report-length}
+use Rattle.instrument.specs.Outside.{Outside, Inside, TooHigh, Neither}
+
+-- ---- 7, 8 or neither
+module _ (r : Reading) where
+  weighed-steps : weighed r ≡ (test (inTable (r .rows) (displacement (entriesOf r))) 7 0 0 >> test (leb (correctedKG (entriesOf r)) greatestKG) 8 0 0)
+  unfolding weighed
+  weighed-steps = refl
+
+  table-steps : inTable (r .rows) (displacement (entriesOf r)) ≡ (leb (firstMass (r .rows)) (displacement (entriesOf r)) && leb (displacement (entriesOf r)) (lastMass (r .rows)))
+  unfolding inTable
+  table-steps = refl
+
+  off : inTable (r .rows) (displacement (entriesOf r)) ≡ false → weighed r ≡ refused 7 0 0
+  off e = weighed-steps ∙ test-refused 7 0 0 _ e
+
+  on : inTable (r .rows) (displacement (entriesOf r)) ≡ true → (c : Bool) → leb (correctedKG (entriesOf r)) greatestKG ≡ c → weighed r ≡ test c 8 0 0
+  on e c p = weighed-steps ∙ test-got 7 0 0 _ e ∙ ap (λ (b : Bool). test b 8 0 0) p
+
+  weighed-cases : {X : Type 0} → (Outside r → weighed r ≡ refused 7 0 0 → X) → (TooHigh r → weighed r ≡ refused 8 0 0 → X) → (Neither r → weighed r ≡ got tt → X) → X
+  unfolding test
+  weighed-cases {X} f g h = go (leb (firstMass (r .rows)) (displacement (entriesOf r))) (leb (displacement (entriesOf r)) (lastMass (r .rows))) (leb (correctedKG (entriesOf r)) greatestKG) refl refl refl
+    where
+      go : (a b c : Bool) → leb (firstMass (r .rows)) (displacement (entriesOf r)) ≡ a → leb (displacement (entriesOf r)) (lastMass (r .rows)) ≡ b → leb (correctedKG (entriesOf r)) greatestKG ≡ c → X
+      go false b c p q s = f (inl (leb-false _ _ p)) (off (table-steps ∙ rw p))
+      go true false c p q s = f (inr (leb-false _ _ q)) (off (table-steps ∙ rw (p, q)))
+      go true true false p q s = g ((leb-true _ _ p, leb-true _ _ q), leb-false _ _ s) (on (table-steps ∙ rw (p, q)) false s)
+      go true true true p q s = h ((leb-true _ _ p, leb-true _ _ q), leb-true _ _ s) (on (table-steps ∙ rw (p, q)) true s)
+
+  apart : Outside r → Inside r → ⊥
+  apart O I = ⊎-elim (λ l. omega arith) (λ l. omega arith) O
+
+-- ---- the report is 209 characters
+judgement-length : (c : Loaded) → (length (map verdictNumber (judgement c .verdicts)) ≡ 8) × (length (judgement c .figures) ≡ 11)
+unfolding judgement
+judgement-length c = (refl, refl)
+
+refusal-length : (n l o : ℕ) → length (reportOf (refused n l o)) ≡ reportLength
+refusal-length n l o = rw (report-refused n l o) (report-length n l o _ _ refl refl)
+
+judged-length : (c : Loaded) → length (reportOf (got (judgement c))) ≡ reportLength
+judged-length c = rw (report-judged (judgement c)) (report-length 0 0 0 _ _ (judgement-length c .0) (judgement-length c .1))
+
+-- ---- the answer of a text
+module _ (t : List ℕ) where
+  by-reading : {X : Type 0} → ((n l o : ℕ) → read t ≡ refused n l o → X) → ((r : Reading) → read t ≡ got r → X) → X
+  by-reading {X} f g = go (read t) refl
+    where
+      go : (a : Ans Reading) → read t ≡ a → X
+      go (refused n l o) e = f n l o e
+      go (got r) e = g r e
+
+  abbrev allowed : (r : Reading) → read t ≡ got r → Allowed t
+  allowed r e = let s = sound t r e in (r, s .0, s .1)
+
+  read-of : (a : Allowed t) → read t ≡ got (a .0)
+  read-of a = rw (← (a .2)) (complete (a .0) (a .1))
+
+  off-answer : (r : Reading) → read t ≡ got r → {n l o : ℕ} → weighed r ≡ refused n l o → answered t ≡ refused n l o
+  off-answer r e w = answered-read t r e ∙ judged-refused r w
+
+  fine-answer : (r : Reading) → read t ≡ got r → weighed r ≡ got tt → answered t ≡ got (judgement (loaded r))
+  fine-answer r e w = answered-read t r e ∙ judged-weighed r w
+
+  answer-length : length (reportOf (answered t)) ≡ reportLength
+  answer-length =
+      by-reading
+      (λ n l o e. rw (answered-refused t e) (refusal-length n l o))
+      (λ r e. weighed-cases r (λ _ w. rw (off-answer r e w) (refusal-length 7 0 0)) (λ _ w. rw (off-answer r e w) (refusal-length 8 0 0)) (λ _ w. rw (fine-answer r e w) (judged-length (loaded r))))
+
+  number-to-8 : numberOf (answered t) ≤ 8
+  number-to-8 =
+      by-reading
+      (λ n l o e. omega (arith, number-of-refusal t e, ap numberOf (answered-refused t e)))
+      (λ r e. weighed-cases r (λ _ w. omega (arith, ap numberOf (off-answer r e w))) (λ _ w. omega (arith, ap numberOf (off-answer r e w))) (λ _ w. omega (arith, ap numberOf (fine-answer r e w))))
+
+-- ---- what is sent back
+module _ (t before : List ℕ) (n : ℕ) (after : List ℕ) (N : n ≡ number t before) (W : after ≡ written t before) where
+  pub short : length before < reportLength → (n ≡ 9) × (after ≡ before)
+  short h = (N ∙ number-short t before h, W ∙ written-short t before h)
+
+  module _ (h : reportLength ≤ length before) where
+    numbered : n ≡ numberOf (answered t)
+    numbered = N ∙ number-room t before h
+
+    front : take reportLength after ≡ reportOf (answered t)
+    front = ap (take reportLength) (W ∙ written-room t before h) ∙ take-at (reportOf (answered t)) (drop reportLength before) reportLength (answer-length t)
+
+    back : drop reportLength after ≡ drop reportLength before
+    back = ap (drop reportLength) (W ∙ written-room t before h) ∙ drop-at (reportOf (answered t)) (drop reportLength before) reportLength (answer-length t)
+
+    pub room : (n ≤ 8) × (take reportLength after ≡ reportOf (answered t)) × (drop reportLength after ≡ drop reportLength before)
+    room = (omega (arith, numbered, number-to-8 t), front, back)
+
+    pub refusal-sent : (m l o : ℕ) → read t ≡ refused m l o → (n ≡ m) × (take reportLength after ≡ report m l o noJudgement)
+    unfolding report
+    refusal-sent m l o e = let a = answered-refused t e in (numbered ∙ ap numberOf a, front ∙ ap reportOf a ∙ report-refused m l o)
+
+    pub weighing-sent : (r : Reading) → read t ≡ got r → (m : ℕ) → weighed r ≡ refused m 0 0 → (n ≡ m) × (take reportLength after ≡ report m 0 0 noJudgement)
+    unfolding report
+    weighing-sent r e m w = let a = off-answer t r e w in (numbered ∙ ap numberOf a, front ∙ ap reportOf a ∙ report-refused m 0 0)
+
+    pub judgement-sent : (r : Reading) → read t ≡ got r → weighed r ≡ got tt → (n ≡ 0) × (take reportLength after ≡ report 0 0 0 (judgement (loaded r)))
+    unfolding report
+    judgement-sent r e w = let a = fine-answer t r e w in (numbered ∙ ap numberOf a, front ∙ ap reportOf a ∙ report-judged (judgement (loaded r)))
+
+    pub of-reading : (r : Reading) → read t ≡ got r → (n ≡ numberOf (judged r)) × (take reportLength after ≡ reportOf (judged r))
+    of-reading r e = let a = answered-read t r e in (numbered ∙ ap numberOf a, front ∙ ap reportOf a)
+
+    -- ---- which number
+    refused-by : (m l o : ℕ) → read t ≡ refused m l o → (1 ≤ n) × (n ≤ 6)
+    refused-by m l o e = omega (arith, number-of-refusal t e, refusal-sent m l o e .0)
+
+    read-by : {X : Type 0} (r : Reading) → read t ≡ got r → (Outside r → n ≡ 7 → X) → (TooHigh r → n ≡ 8 → X) → (Neither r → n ≡ 0 → X) → X
+    read-by r e f g k = weighed-cases r (λ O w. f O (weighing-sent r e 7 w .0)) (λ T w. g T (weighing-sent r e 8 w .0)) (λ T w. k T (judgement-sent r e w .0))
+
+    pub unrefused : ((¬ ((1 ≤ n) × (n ≤ 6))) × (n ≢ 9)) ↔ Allowed t
+    unrefused = (
+      λ u. by-reading t (λ m l o e. absurd (u .0 (refused-by m l o e))) (λ r e. allowed t r e),
+      λ a. (λ b. read-by (a .0) (read-of t a) (λ _ q. omega arith) (λ _ q. omega arith) (λ _ q. omega arith), λ q. omega (arith, room .0)),
+    )
+
+    module _ {P : Reading → Type 0} (m : ℕ) (M : ¬ ((1 ≤ m) × (m ≤ 6))) (to : (r : Reading) → read t ≡ got r → n ≡ m → P r) (from : (r : Reading) → read t ≡ got r → P r → n ≡ m) where
+      exactly : (n ≡ m) ↔ ((a : Allowed t) × P (a .0))
+      exactly = (
+        λ q. by-reading t (λ k l o e. absurd (M (let z = refused-by k l o e in omega arith))) (λ r e. (allowed t r e, to r e q)),
+        λ x. from (x .0 .0) (read-of t (x .0)) (x .1),
+      )
+
+    pub number-7 : (n ≡ 7) ↔ ((a : Allowed t) × Outside (a .0))
+    number-7 =
+        exactly {P = Outside} 7 (λ z. omega arith)
+        (λ r e q. read-by r e (λ O _. O) (λ _ p. absurd (omega arith)) (λ _ p. absurd (omega arith)))
+        (λ r e O. read-by r e (λ _ q. q) (λ T _. absurd (apart r O (T .0))) (λ T _. absurd (apart r O (T .0))))
+
+    pub number-8 : (n ≡ 8) ↔ ((a : Allowed t) × TooHigh (a .0))
+    number-8 =
+        exactly {P = TooHigh} 8 (λ z. omega arith)
+        (λ r e q. read-by r e (λ _ p. absurd (omega arith)) (λ T _. T) (λ _ p. absurd (omega arith)))
+        (λ r e T. read-by r e (λ O _. absurd (apart r O (T .0))) (λ _ q. q) (λ U _. absurd (omega arith)))
+
+    pub number-0 : (n ≡ 0) ↔ ((a : Allowed t) × Neither (a .0))
+    number-0 =
+        exactly {P = Neither} 0 (λ z. omega arith)
+        (λ r e q. read-by r e (λ _ p. absurd (omega arith)) (λ _ p. absurd (omega arith)) (λ T _. T))
+        (λ r e T. read-by r e (λ O _. absurd (apart r O (T .0))) (λ U _. absurd (omega arith)) (λ _ q. q))

@@ -1,0 +1,2 @@
+-- What is sent back: laws of specs/Report and Answer.
+pub mod Steps

@@ -1,0 +1,63 @@
+-- The answer step by step: the reading, then 7 and 8, then the judgement; and what is sent back of it, with room for the report and without.
+use mathlib.Core.Path.{_≡_, refl, ap, _∙_}
+use mathlib.Core.Bool.{Bool, true, false}
+use mathlib.Core.List.{List, _++_, map}
+use Prim.Native.Nat.{ℕ, _≤_, _<_}
+use lib.ListN.{length, drop}
+use borrow.Author.Tests.{lt-ltb, le-ltb}
+use Rattle.rules.specs.Layout.{Reading}
+use Rattle.rules.specs.Outcome.{refused, got, _>>=_, _>>_}
+use Rattle.rules.specs.Walk.{read}
+use Rattle.rules.specs.Loading.{weighed}
+use Rattle.rules.specs.Curve.{loaded}
+use Rattle.rules.specs.Report.{verdictNumber, Judgement, judgement, noJudgement, reportLength, reportLine}
+use Rattle.rules.specs.Answer.{judged, answered, numberOf, reportOf, number, written}
+use Rattle.rules.proofs.walk.Outcome.{bind-got, bind-refused}
+
+-- ---- what is answered
+answered-steps : (t : List ℕ) → answered t ≡ (read t >>= judged)
+unfolding answered
+answered-steps t = refl
+
+judged-steps : (r : Reading) → judged r ≡ (weighed r >>= λ u. got (judgement (loaded r)))
+unfolding judged
+judged-steps r = refl
+
+pub answered-refused : (t : List ℕ) {n l o : ℕ} → read t ≡ refused n l o → answered t ≡ refused n l o
+answered-refused t e = answered-steps t ∙ bind-refused judged e
+
+pub answered-read : (t : List ℕ) (r : Reading) → read t ≡ got r → answered t ≡ judged r
+answered-read t r e = answered-steps t ∙ bind-got judged e
+
+pub judged-refused : (r : Reading) {n l o : ℕ} → weighed r ≡ refused n l o → judged r ≡ refused n l o
+judged-refused r e = judged-steps r ∙ bind-refused _ e
+
+pub judged-weighed : (r : Reading) → weighed r ≡ got tt → judged r ≡ got (judgement (loaded r))
+judged-weighed r e = judged-steps r ∙ bind-got _ e
+
+-- ---- its report
+pub report-refused : (n l o : ℕ) → reportOf (refused n l o) ≡ reportLine n l o (map verdictNumber (noJudgement .verdicts)) (noJudgement .figures)
+unfolding reportOf
+report-refused n l o = refl
+
+pub report-judged : (j : Judgement) → reportOf (got j) ≡ reportLine 0 0 0 (map verdictNumber (j .verdicts)) (j .figures)
+unfolding reportOf
+report-judged j = refl
+
+-- ---- what is sent back
+module _ (t buffer : List ℕ) where
+  pub number-short : length buffer < reportLength → number t buffer ≡ 9
+  unfolding number
+  number-short h = ap (λ (b : Bool). elim b [ true ↦ 9 | false ↦ numberOf (answered t) ]) (lt-ltb (length buffer) reportLength h)
+
+  pub written-short : length buffer < reportLength → written t buffer ≡ buffer
+  unfolding written
+  written-short h = ap (λ (b : Bool). elim b [ true ↦ buffer | false ↦ reportOf (answered t) ++ drop reportLength buffer ]) (lt-ltb (length buffer) reportLength h)
+
+  pub number-room : reportLength ≤ length buffer → number t buffer ≡ numberOf (answered t)
+  unfolding number
+  number-room h = ap (λ (b : Bool). elim b [ true ↦ 9 | false ↦ numberOf (answered t) ]) (le-ltb (length buffer) reportLength h)
+
+  pub written-room : reportLength ≤ length buffer → written t buffer ≡ reportOf (answered t) ++ drop reportLength buffer
+  unfolding written
+  written-room h = ap (λ (b : Bool). elim b [ true ↦ buffer | false ↦ reportOf (answered t) ++ drop reportLength buffer ]) (le-ltb (length buffer) reportLength h)

@@ -1,0 +1,5 @@
+-- The bench sheet and other worked texts, by computation.
+pub mod Cases
+pub mod Bench
+pub mod Slips
+pub mod Drawing

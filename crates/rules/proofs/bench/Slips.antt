@@ -1,0 +1,31 @@
+-- 'Slips the bench has met', and roundings the wrong way: a text on which each shows, with the second program's report, as one list and one theorem.
+-- (r rounded toward zero and a windward side of zero show in P8 and P6.)
+use mathlib.Core.Path.{refl}
+use mathlib.Core.List.{List, [], _∷_}
+use Rattle.rules.specs.Answer.{answered, reportOf}
+use Rattle.rules.proofs.bench.Cases.{Case, judges, refuses, All, lines, broken, refusal}
+use Rattle.rules.proofs.bench.Bench.{ship, row1, with, P1-output}
+
+abbrev pub slips : List Case
+slips =
+    -- KG rounded down: it is 4,001 where it is above 4,000 by a little.
+    judges (with "A30021C1000C000009C40FA002BC01F400C8C2000600155CBF0FA0C20006000000010FA1")
+    (broken ("D1006500000000000101010101010101" ∷ "0000000000155CC00000000000000FA100000000000001F3" ∷ "00000064297E2EE800000042C24AA1B4000000A6EBC8D09C" ∷ "0000000059420960000000000000012C000000000000002A" ∷ "00000000000000EF0000004728D0C248" ∷ []))
+    -- Ending the windward side at the flooding angle: it is 10 degrees, and the start 19.8 degrees to windward.
+    ∷ judges (with "A30018C1000C000009C40FA002BC006400C8C2000600155CC00FA0")
+    (broken ("D1006500000000000000000000010100" ∷ "0000000000155CC00000000000000FA000000000000001F4" ∷ "0000000A4F4B2E0000000000000000000000000A4F4B2E00" ∷ "00000000000000000000000000000064000000000000002A" ∷ "00000000000000EFFFFFFFB905C81280" ∷ []))
+    -- Taking the last of equal greatest levers: with KG 0 and one KN from 5 degrees on, all are equal from there.
+    ∷ judges (lines (ship ∷ "A2002200155CC00FA01194000003E803E803E803E803E803E803E803E803E803E803E803E8" ∷ "A2002200186A0011301194000003E803E803E803E803E803E803E803E803E803E803E803E8" ∷ "A30018C1000C000009C40FA002BC01F400C8C2000600155CC00000" ∷ []))
+    (broken ("D1006500000000000101010100010102" ∷ "0000000000155CC000000000000000000000000000001194" ∷ "0000028048C5EC00000000E8D4A51000000003691D6AFC00" ∷ "000000012A05F20000000000000000320000000000000002" ∷ "00000000000000000000000000000000" ∷ []))
+    -- Testing a group's length against the line and not against its parent: the item runs past its group, which the line has room for.
+    ∷ refuses (with "A3001BC1000C000009C40FA002BC01F400C8C40008C2000600155CC00FA0") 2 4 21 (refusal "D100650200040015")
+    -- Letting lw2 be 1.5 times an unrounded lw1: 36.3 is 37, and 55.5 is 56, as in P1; 54.4 would be 55.
+    ∷ judges (with "A30018C1000C000009A60FA002BC01F400C8C2000600155CC00FA0") P1-output
+    -- KN rounded up between rows: at W one above the first row's, it is the first row's still.
+    ∷ judges (lines (ship ∷ row1 ∷ "A2002200186A001130119400000190030F04970620078A08FC0A220B050BA20C5C0CCD0D48" ∷ "A30018C1000C000009C40FA002BC01F400C8C2000600155CC10FA0" ∷ []))
+    (broken ("D1006500000000000101010101010101" ∷ "0000000000155CC10000000000000FA000000000000001F4" ∷ "000000645737BC0000000042E46A1900000000A73BA1D500" ∷ "0000000059682F00000000000000012C000000000000002A" ∷ "00000000000000EF000000478E8D8F80" ∷ []))
+    ∷ []
+
+pub slips-hold : All slips
+unfolding answered reportOf
+slips-hold = (refl, (refl, (refl, ((refl, refl), (refl, (refl, tt))))))

@@ -1,0 +1,5 @@
+-- The angles, the verdicts and the roll: laws of specs/Criteria and Roll.
+pub mod Angles
+pub mod Verdicts
+pub mod Roll
+pub mod Ranges

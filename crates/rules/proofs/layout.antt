@@ -1,0 +1,8 @@
+-- Numbers in bytes, fields, characters and lines, places: laws of specs/Numbers, Text, Blocks, Layout, Parts and Places, and 01's limits restated.
+pub mod Numbers
+pub mod Fields
+pub mod Lines
+pub mod Parts
+pub mod Edges
+pub mod Counts
+pub mod InsideParent

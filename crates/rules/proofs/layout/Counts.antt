@@ -1,0 +1,74 @@
+-- How many there may be, restated from 01 and tried at each edge: rows, depths, entries, bytes, characters; and the greatest KG.
+use mathlib.Core.Path.{_≡_, refl}
+use mathlib.Core.Bool.{true}
+use mathlib.Core.List.{List}
+use Prim.Native.Nat.{ℕ, _≤_, _<_}
+use lib.Dec.{eqb}
+use lib.ListN.{length}
+use borrow.Author.Tests.{le-leb, lt-leb}
+use Rattle.rules.specs.Numbers.{full}
+use Rattle.rules.specs.Blocks.{Load, size, entry}
+use Rattle.rules.specs.Layout.{Reading}
+use Rattle.rules.specs.Outcome.{refused, got, test, _>>=_, _>>_}
+use Rattle.rules.specs.Walk.{Head, load, nested, fixed, begun, loadAt, entries, inside, conditionIn, rowIn, aRow, aCondition, tableRow, theCondition, found, linesFrom, readFrames, read}
+use Rattle.rules.specs.Loading.{inTable, displacement, entriesOf, correctedKG, weighed}
+
+-- '2 to 40 A2': 'A3 before two rows; a 41st row' are refused with 4.
+module _ (ln p : ℕ) (h : Head) where
+  pub one-row : found ln 1 p h aCondition ≡ refused 4 ln 0
+  unfolding found test _>>=_ _>>_
+  one-row = refl
+
+  pub two-rows : found ln 2 p h aCondition ≡ (conditionIn ln h >>= λ c. got (theCondition c))
+  unfolding found test _>>=_ _>>_
+  two-rows = refl
+
+  pub row-40 : found ln 39 p h aRow ≡ (rowIn ln p h >>= λ v. got (tableRow v))
+  unfolding found test _>>=_ _>>_
+  row-40 = refl
+
+  pub row-41 : found ln 40 p h aRow ≡ refused 4 ln 0
+  unfolding found test _>>=_ _>>_
+  row-41 = refl
+
+-- 'At most 4 groups deep', 'at most 200 items and tanks': so many are left at first, and with none left 5 is sent back.
+pub four-and-200 : (ln at : ℕ) (s : List ℕ) → full s ≡ true → loadAt ln at s ≡ entries ln 4 200 at s
+unfolding loadAt test _>>=_ _>>_
+four-and-200 ln at s h = rw h
+
+pub fifth-depth : (ln n at : ℕ) (body : List ℕ) → begun ln 0 n at body nested ≡ refused 5 ln at
+unfolding begun test _>>=_ _>>_
+fifth-depth ln n at body = refl
+
+pub entry-201 : (ln d at : ℕ) (body : List ℕ) (k : Load) → eqb (length body) (size (entry k .fields)) ≡ true → begun ln d 0 at body (load k) ≡ refused 5 ln at
+unfolding begun fixed test _>>=_ _>>_
+entry-201 ln d at body k h = rw h
+
+-- 'At most 4,096 bytes.'
+module _ (ln : ℕ) (h : Head) (alone : length (h .rest) ≡ 0) where
+  pub bytes-4097 : 4_096 < length (h .body) → conditionIn ln h ≡ refused 5 ln 0
+  unfolding conditionIn test _>>=_ _>>_
+  bytes-4097 l = rw (alone, lt-leb (length (h .body)) 4_096 l)
+
+  pub bytes-4096 : length (h .body) ≤ 4_096 → conditionIn ln h ≡ inside ln (h .body)
+  unfolding conditionIn test _>>=_ _>>_
+  bytes-4096 l = rw (alone, le-leb (length (h .body)) 4_096 l)
+
+-- 'At most 12,000 characters.'
+pub characters-12001 : (t : List ℕ) → 12_000 < length t → read t ≡ refused 1 0 0
+unfolding read test _>>=_ _>>_
+characters-12001 t l = rw (lt-leb (length t) 12_000 l)
+
+pub characters-12000 : (t : List ℕ) → length t ≤ 12_000 → read t ≡ (linesFrom 1 t >>= readFrames)
+unfolding read test _>>=_ _>>_
+characters-12000 t l = rw (le-leb (length t) 12_000 l)
+
+-- 'Corrected KG above 60,000.'
+module _ (r : Reading) (floats : inTable (r .rows) (displacement (entriesOf r)) ≡ true) where
+  pub kg-60001 : 60_000 < correctedKG (entriesOf r) → weighed r ≡ refused 8 0 0
+  unfolding weighed test _>>=_ _>>_
+  kg-60001 l = rw (floats, lt-leb (correctedKG (entriesOf r)) 60_000 l)
+
+  pub kg-60000 : correctedKG (entriesOf r) ≤ 60_000 → weighed r ≡ got tt
+  unfolding weighed test _>>=_ _>>_
+  kg-60000 l = rw (floats, le-leb (correctedKG (entriesOf r)) 60_000 l)

@@ -1,0 +1,19 @@
+-- The order of checks: laws of specs/Outcome and Walk, which texts are read, and what a refusal says: specs/Met and Places.
+pub mod Outcome
+pub mod Heads
+pub mod Entries
+pub mod Conditions
+pub mod Frames
+pub mod WholeText
+pub mod Refusals
+pub mod Fuel
+pub mod BlockExits
+pub mod FrameExits
+pub mod Overrun
+pub mod HeadAlone
+pub mod SameBefore
+pub mod EntryFault
+pub mod FrameFault
+pub mod FirstFault
+pub mod BadLine
+pub mod PlaceWithin

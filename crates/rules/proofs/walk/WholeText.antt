@@ -1,0 +1,60 @@
+-- A whole text: it is read exactly when it is allowed, and in one way.
+use mathlib.Core.Path.{_≡_, refl, ap, sym, _∙_}
+use mathlib.Core.Logic.{_↔_}
+use mathlib.Core.List.{List}
+use Prim.Native.Nat.{ℕ, _≤_}
+use native.Mathlib.Omega.{arith}
+use lib.ListN.{length}
+use lib.Dec.{leb}
+use borrow.Author.Tests.{leb-true, le-leb}
+use Rattle.rules.specs.Text.{text, Lines}
+use Rattle.rules.specs.Layout.{Reading, frames, spellText, mostCharacters, Limits, Allowed}
+use Rattle.rules.specs.Outcome.{got, test, _>>=_, _>>_}
+use Rattle.rules.specs.Walk.{linesFrom, readFrames, read}
+use Rattle.rules.proofs.walk.Outcome.{bind-inv, test-inv, bind-got, test-got}
+use Rattle.rules.proofs.layout.Lines.{lines-sound, lines-got}
+use Rattle.rules.proofs.walk.Frames.{Framed, readFrames-sound, readFrames-got, Lines-frames}
+
+-- The walk over a whole text, its steps shut.
+pub read-steps : (t : List ℕ) → read t ≡ (test (leb (length t) mostCharacters) 1 0 0 >> (linesFrom 1 t >>= readFrames))
+unfolding read
+read-steps t = refl
+
+-- The walk over a text of lines within 12,000 characters.
+pub read-lines : (ls : List (List ℕ)) → Lines ls → length (text ls) ≤ mostCharacters → read (text ls) ≡ readFrames ls
+read-lines ls B l = read-steps (text ls) ∙ test-got _ _ _ _ (le-leb _ _ l) ∙ bind-got _ (lines-got ls 1 B)
+
+-- What is read spells the text, within the limits.
+pub sound : (t : List ℕ) (r : Reading) → read t ≡ got r → Limits r × (spellText r ≡ t)
+unfolding spellText
+sound t r e =
+    let a = test-inv _ _ _ _ _ (sym (read-steps t) ∙ e) in
+    let b = bind-inv _ _ (a .1) in
+    let L = lines-sound 1 t (b .0) (b .1) in
+    let F = readFrames-sound (b .0) r (L .1) (b .2) in
+    let p : text (frames r) ≡ t = ap text (F .spells) ∙ L .0 in
+    (record { hull = F .hull; rising = F .rising; few = F .few; many = F .many; loaded = F .loaded; long = omega (arith, ap length p, leb-true (length t) mostCharacters (a .0)) }, p)
+
+-- Its lines are the frames of what is read.
+pub lines-of-reading : (t : List ℕ) (r : Reading) → read t ≡ got r → linesFrom 1 t ≡ got (frames r)
+lines-of-reading t r e =
+    let a = test-inv _ _ _ _ _ (sym (read-steps t) ∙ e) in
+    let b = bind-inv _ _ (a .1) in
+    b .1 ∙ ap got (sym (readFrames-sound (b .0) r (lines-sound 1 t (b .0) (b .1) .1) (b .2) .spells))
+
+-- What is within the limits is read back from its spelling.
+pub complete : (r : Reading) → Limits r → read (spellText r) ≡ got r
+unfolding spellText
+complete r l =
+    let F : Framed r (frames r) = record { spells = refl; hull = l .hull; rising = l .rising; few = l .few; many = l .many; loaded = l .loaded } in
+    read-lines (frames r) (Lines-frames r F) (l .long) ∙ readFrames-got r F
+
+-- Read exactly when allowed.
+pub read-allowed : (t : List ℕ) → ((r : Reading) × (read t ≡ got r)) ↔ Allowed t
+read-allowed t = (λ x. let s = sound t (x .0) (x .1) in (x .0, s .0, s .1), λ a. (a .0, rw (← (a .2)) (complete (a .0) (a .1))))
+
+pub reading-unique : (t : List ℕ) (a b : Allowed t) → a .0 ≡ b .0
+reading-unique t a b =
+    let p : read t ≡ got (a .0) = rw (← (a .2)) (complete (a .0) (a .1)) in
+    let q : read t ≡ got (b .0) = rw (← (b .2)) (complete (b .0) (b .1)) in
+    cc
