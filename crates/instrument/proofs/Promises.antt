@@ -1,18 +1,25 @@
 -- What is promised of the instrument, to be read without the proofs: each promise is one theorem with a sentence above it, and its proof stands elsewhere.
 -- All are stated of `judge` through its contract, which `judge` is proved to meet (proofs/judge). Their words are defined in the rules' specs/: Answer and Report (what is answered, and its 209 characters), Layout (which texts are allowed), Walk (the reading), Loading (masses and KG); and in specs/Outside (7 and 8).
-use mathlib.Core.Path.{_≡_, sym, _∙_}
+use mathlib.Core.Path.{_≡_, refl, sym, _∙_}
 use mathlib.Core.Logic.{_↔_, _≢_}
-use mathlib.Core.List.{List}
-use Prim.Native.Nat.{ℕ, _≤_, _<_}
+use mathlib.Core.List.{List, []}
+use Prim.Native.Nat.{ℕ, _+_, _≤_, _<_}
 use lib.ListN.{length, take, drop}
-use denote.Ref.{now}
+use denote.Ref.{RefT, now}
+use Rattle.rules.specs.Rounding.{ceil}
+use Rattle.rules.specs.Numbers.{digits}
+use Rattle.rules.specs.Text.{hex}
 use Rattle.rules.specs.Layout.{Reading, Allowed}
 use Rattle.rules.specs.Outcome.{refused, got}
 use Rattle.rules.specs.Walk.{read}
-use Rattle.rules.specs.Loading.{weighed}
+use Rattle.rules.specs.Loading.{mass, moment, freeSurface, weighed}
+use Rattle.rules.specs.Leaves.{sumLeaves, SameSums}
 use Rattle.rules.specs.Curve.{loaded}
 use Rattle.rules.specs.Report.{judgement, noJudgement, report, reportLength}
+use Rattle.rules.specs.Columns.{figureIn}
 use Rattle.rules.specs.Answer.{answered, reportOf, number, written}
+use Rattle.rules.proofs.bench.Bench.{P1}
+use Rattle.rules.proofs.bench.Regrouped.{regrouped, asOne, asGroup, reads-as, same-sums, two-texts}
 use Rattle.instrument.specs.Outside.{Outside, TooHigh, Neither}
 use Rattle.instrument.proofs.judge.Reads as judge
 use Rattle.instrument.proofs.Replies as replies
@@ -22,13 +29,20 @@ use Rattle.instrument.proofs.Replies as replies
 abbrev pub Judges : List ℕ → List ℕ → ℕ → List ℕ → Type 0
 Judges text before n after = (κs : _) × (a : _) × (s : _) × judge.Post κs a n s × (now (a .0) ≡ text) × (now (a .1 .0) ≡ before) × (now (s .1 .0) ≡ after)
 
--- Lent this text and this buffer, `judge` sends back the number and leaves the buffer that the rules settle.
-contract : (text before : List ℕ) (n : ℕ) (after : List ℕ) → Judges text before n after → (n ≡ number text before) × (after ≡ written text before)
-contract text before n after run = rw (← (run .4), ← (run .5), ← (run .6)) (run .3)
+-- That is the two equations of the contract, no more and no less: the number is the rules' and so is the buffer at the end.
+pub contract : (text before : List ℕ) (n : ℕ) (after : List ℕ) → Judges text before n after ↔ ((n ≡ number text before) × (after ≡ written text before))
+contract text before n after = (
+  λ run. rw (← (run .4), ← (run .5), ← (run .6)) (run .3),
+  λ settled. (([], ([], tt)), (lent text, (lent before, tt)), (lent text, (lent after, tt)), settled, refl, refl, refl),
+)
+  where
+    -- A slice that is lent, at some place in memory.
+    lent : List ℕ → RefT (List ℕ)
+    lent s = record { ptr = (0, 0); name = 0; now = s }
 
 module _ (text before : List ℕ) (n : ℕ) (after : List ℕ) (run : Judges text before n after) where
   settled : (n ≡ number text before) × (after ≡ written text before)
-  settled = contract text before n after run
+  settled = contract text before n after .0 run
 
   -- ---- every text is answered
   -- With fewer than 209 bytes of room the number is 9 and every byte of the buffer is as it was, whatever the text.
@@ -54,6 +68,12 @@ module _ (text before : List ℕ) (n : ℕ) (after : List ℕ) (run : Judges tex
     pub figures-of-reading : (r : Reading) → read text ≡ got r → weighed r ≡ got tt → (n ≡ 0) × (take reportLength after ≡ report 0 0 0 (judgement (loaded r)))
     figures-of-reading = replies.judgement-sent text before n after (settled .0) (settled .1) room
 
+    -- Each entry is counted once, through to the report's characters: for a text that is judged, the figure of W is the sum of the masses over the leaves of its one tree,
+    -- and the figure of KG the sum of the moments and free surface moments over them, by that sum of masses, rounded up.
+    pub counted-once : n ≡ 0 → (a : Allowed text) → (figureIn 0 after ≡ hex (digits 8 (sumLeaves mass (a .0 .condition .load))))
+        × (figureIn 1 after ≡ hex (digits 8 (ceil (sumLeaves moment (a .0 .condition .load) + sumLeaves freeSurface (a .0 .condition .load)) (sumLeaves mass (a .0 .condition .load)))))
+    counted-once = replies.figures-of-leaves text before n after (settled .0) (settled .1) room
+
     -- ---- demand 3: which texts are judged
     -- The number is none of 1 to 6 and 9 exactly when the text is allowed.
     pub read-iff-allowed : ((¬ ((1 ≤ n) × (n ≤ 6))) × (n ≢ 9)) ↔ Allowed text
@@ -75,16 +95,20 @@ module _ (text before : List ℕ) (n : ℕ) (after : List ℕ) (run : Judges tex
 -- Any two runs over the same text and the same buffer send back the same number and leave the same buffer.
 pub one-answer : (text before : List ℕ) (n n′ : ℕ) (after after′ : List ℕ) → Judges text before n after → Judges text before n′ after′ → (n ≡ n′) × (after ≡ after′)
 one-answer text before n n′ after after′ run run′ =
-    let p = contract text before n after run in
-    let q = contract text before n′ after′ run′ in
+    let p = contract text before n after .0 run in
+    let q = contract text before n′ after′ .0 run′ in
     (p .0 ∙ sym (q .0), p .1 ∙ sym (q .1))
 
--- Two texts that have the same reading, each with room, get the same number and the same report: what is judged is the reading, and nothing else of the text or of the buffer.
+-- ---- the sums settle the report
+-- Two texts of one ship, table and weather whose entries have the same sum of masses and the same sum of moments with free surface moments, each with room, get the same number and the same report:
+-- what is judged is that, and nothing else of the entries, of how they are grouped, of the text or of the buffer.
 pub reading-settles : (text text′ before before′ : List ℕ) (n n′ : ℕ) (after after′ : List ℕ) → Judges text before n after → Judges text′ before′ n′ after′
-    → reportLength ≤ length before → reportLength ≤ length before′ → (r : Reading) → read text ≡ got r → read text′ ≡ got r → (n ≡ n′) × (take reportLength after ≡ take reportLength after′)
-reading-settles text text′ before before′ n n′ after after′ run run′ room room′ r e e′ =
-    let p = contract text before n after run in
-    let q = contract text′ before′ n′ after′ run′ in
-    let u = replies.of-reading text before n after (p .0) (p .1) room r e in
-    let v = replies.of-reading text′ before′ n′ after′ (q .0) (q .1) room′ r e′ in
-    (u .0 ∙ sym (v .0), u .1 ∙ sym (v .1))
+    → reportLength ≤ length before → reportLength ≤ length before′ → (a : Allowed text) (a′ : Allowed text′) → SameSums (a .0) (a′ .0) → (n ≡ n′) × (take reportLength after ≡ take reportLength after′)
+reading-settles text text′ before before′ n n′ after after′ run run′ room room′ a a′ same =
+    let p = contract text before n after .0 run in
+    let q = contract text′ before′ n′ after′ .0 run′ in
+    replies.by-sums text text′ before before′ n n′ after after′ (p .0) (p .1) (q .0) (q .1) room room′ a a′ same
+
+-- Such texts need have nothing else in common: P1, whose load is one item, and a text whose load is a group of another item and a tank.
+pub two-such-texts : (a : Allowed P1) × (a′ : Allowed regrouped) × SameSums (a .0) (a′ .0) × (P1 ≢ regrouped)
+two-such-texts = (replies.allowed P1 asOne (reads-as .0), replies.allowed regrouped asGroup (reads-as .1), same-sums, two-texts)

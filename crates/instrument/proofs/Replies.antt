@@ -1,26 +1,34 @@
 -- What the promises rest on: the number and the report of a text step by step, by what its reading is and where its mass and KG lie.
-use mathlib.Core.Path.{_≡_, refl, ap, _∙_}
+use mathlib.Core.Path.{_≡_, refl, ap, sym, _∙_}
 use mathlib.Core.Bool.{Bool, true, false, _&&_}
 use mathlib.Core.List.{List, map}
 use mathlib.Core.Logic.{_↔_, _≢_, inl, inr, ⊎-elim}
-use Prim.Native.Nat.{ℕ, _≤_, _<_}
+use Prim.Native.Nat.{ℕ, _+_, _*_, _≤_, _<_}
 use native.Mathlib.Omega.{arith}
 use lib.Dec.{leb}
-use lib.ListN.{length, take, drop}
+use lib.IntN.{pos}
+use lib.ListN.{length, take, drop, getD}
 use lib.Seq.{take-at, drop-at}
 use borrow.Author.Tests.{leb-true, leb-false}
+use Rattle.rules.specs.Rounding.{ceil}
+use Rattle.rules.specs.Numbers.{digits, twos}
+use Rattle.rules.specs.Text.{hex}
 use Rattle.rules.specs.Layout.{Reading, Allowed}
 use Rattle.rules.specs.Outcome.{Ans, refused, got, test, _>>_}
 use Rattle.rules.specs.Walk.{read}
-use Rattle.rules.specs.Loading.{weighed, inTable, displacement, correctedKG, firstMass, lastMass, greatestKG, entriesOf}
+use Rattle.rules.specs.Leaves.{sumLeaves, SameSums}
+use Rattle.rules.specs.Columns.{figureIn}
+use Rattle.rules.specs.Loading.{mass, moment, freeSurface, weighed, inTable, displacement, correctedKG, firstMass, lastMass, greatestKG, entriesOf}
 use Rattle.rules.specs.Curve.{Loaded, loaded}
-use Rattle.rules.specs.Report.{verdictNumber, judgement, noJudgement, report, reportLength}
+use Rattle.rules.specs.Report.{verdictNumber, Judgement, judgement, noJudgement, report, reportLength}
 use Rattle.rules.specs.Answer.{judged, answered, numberOf, reportOf, number, written}
 use Rattle.rules.proofs.answer.Steps.{answered-refused, answered-read, judged-refused, judged-weighed, report-refused, report-judged, number-short, written-short, number-room, written-room}
 use Rattle.rules.proofs.walk.Outcome.{test-got, test-refused}
 use Rattle.rules.proofs.walk.WholeText.{sound, complete}
 use Rattle.rules.proofs.walk.Refusals.{number-of-refusal}
-use Rattle.report.proofs.Length.{report-length}
+use Rattle.rules.proofs.answer.Length.{report-length}
+use Rattle.rules.proofs.answer.Columns.{column-front, figure-column}
+use Rattle.rules.proofs.loading.Sums.{displacement-leaves, correctedKG-leaves, judged-by-sums}
 use Rattle.instrument.specs.Outside.{Outside, Inside, TooHigh, Neither}
 
 -- ---- 7, 8 or neither
@@ -72,10 +80,10 @@ module _ (t : List ℕ) where
       go (refused n l o) e = f n l o e
       go (got r) e = g r e
 
-  abbrev allowed : (r : Reading) → read t ≡ got r → Allowed t
+  abbrev pub allowed : (r : Reading) → read t ≡ got r → Allowed t
   allowed r e = let s = sound t r e in (r, s .0, s .1)
 
-  read-of : (a : Allowed t) → read t ≡ got (a .0)
+  pub read-of : (a : Allowed t) → read t ≡ got (a .0)
   read-of a = rw (← (a .2)) (complete (a .0) (a .1))
 
   off-answer : (r : Reading) → read t ≡ got r → {n l o : ℕ} → weighed r ≡ refused n l o → answered t ≡ refused n l o
@@ -129,6 +137,32 @@ module _ (t before : List ℕ) (n : ℕ) (after : List ℕ) (N : n ≡ number t 
     pub of-reading : (r : Reading) → read t ≡ got r → (n ≡ numberOf (judged r)) × (take reportLength after ≡ reportOf (judged r))
     of-reading r e = let a = answered-read t r e in (numbered ∙ ap numberOf a, front ∙ ap reportOf a)
 
+    -- ---- the figures of W and KG
+    figure-sent : (i : ℕ) → i < 11 → figureIn i after ≡ figureIn i (reportOf (answered t))
+    figure-sent i l = ap (figureIn i) (W ∙ written-room t before h) ∙ column-front (reportOf (answered t)) (drop reportLength before) (32 + 16 * i) 16 (omega (arith, answer-length t))
+
+    module _ (a : Allowed t) (w : weighed (a .0) ≡ got tt) where
+      figure-is : (i : ℕ) → i < 11 → figureIn i after ≡ hex (digits 8 (twos (getD (judgement (loaded (a .0)) .figures) i (pos 0))))
+      figure-is i l =
+          let c = loaded (a .0) in
+          figure-sent i l ∙ ap (λ (x : Ans Judgement). figureIn i (reportOf x)) (fine-answer t (a .0) (read-of t a) w) ∙ ap (figureIn i) (report-judged (judgement c))
+          ∙ figure-column 0 0 0 _ _ (judgement-length c .0) (judgement-length c .1) i l
+
+      W-figure : figureIn 0 after ≡ hex (digits 8 (sumLeaves mass (a .0 .condition .load)))
+      unfolding judgement loaded
+      W-figure = figure-is 0 (omega arith) ∙ ap (λ (n : ℕ). hex (digits 8 n)) (displacement-leaves (a .0 .condition .load))
+
+      KG-figure : figureIn 1 after ≡ hex (digits 8 (ceil (sumLeaves moment (a .0 .condition .load) + sumLeaves freeSurface (a .0 .condition .load)) (sumLeaves mass (a .0 .condition .load))))
+      unfolding judgement loaded
+      KG-figure = figure-is 1 (omega arith) ∙ ap (λ (n : ℕ). hex (digits 8 n)) (correctedKG-leaves (a .0 .condition .load))
+
+    pub figures-of-leaves : n ≡ 0 → (a : Allowed t) → (figureIn 0 after ≡ hex (digits 8 (sumLeaves mass (a .0 .condition .load))))
+        × (figureIn 1 after ≡ hex (digits 8 (ceil (sumLeaves moment (a .0 .condition .load) + sumLeaves freeSurface (a .0 .condition .load)) (sumLeaves mass (a .0 .condition .load)))))
+    figures-of-leaves z a =
+        let r = a .0 in
+        let e = read-of t a in
+        weighed-cases r (λ _ w. absurd (omega (arith, weighing-sent r e 7 w .0))) (λ _ w. absurd (omega (arith, weighing-sent r e 8 w .0))) (λ _ w. (W-figure a w, KG-figure a w))
+
     -- ---- which number
     refused-by : (m l o : ℕ) → read t ≡ refused m l o → (1 ≤ n) × (n ≤ 6)
     refused-by m l o e = omega (arith, number-of-refusal t e, refusal-sent m l o e .0)
@@ -166,3 +200,12 @@ module _ (t before : List ℕ) (n : ℕ) (after : List ℕ) (N : n ≡ number t 
         exactly {P = Neither} 0 (λ z. omega arith)
         (λ r e q. read-by r e (λ _ p. absurd (omega arith)) (λ _ p. absurd (omega arith)) (λ T _. T))
         (λ r e T. read-by r e (λ O _. absurd (apart r O (T .0))) (λ U _. absurd (omega arith)) (λ _ q. q))
+
+-- Two texts of the same sums.
+pub by-sums : (t t′ before before′ : List ℕ) (n n′ : ℕ) (after after′ : List ℕ) → n ≡ number t before → after ≡ written t before → n′ ≡ number t′ before′ → after′ ≡ written t′ before′
+    → reportLength ≤ length before → reportLength ≤ length before′ → (a : Allowed t) (a′ : Allowed t′) → SameSums (a .0) (a′ .0) → (n ≡ n′) × (take reportLength after ≡ take reportLength after′)
+by-sums t t′ before before′ n n′ after after′ N W N′ W′ room room′ a a′ same =
+    let e = judged-by-sums (a .0) (a′ .0) same in
+    let u = of-reading t before n after N W room (a .0) (read-of t a) in
+    let v = of-reading t′ before′ n′ after′ N′ W′ room′ (a′ .0) (read-of t′ a′) in
+    (u .0 ∙ ap numberOf e ∙ sym (v .0), u .1 ∙ ap reportOf e ∙ sym (v .1))

@@ -11,7 +11,7 @@ use Rattle.rules.specs.Blocks.{block}
 use Rattle.rules.specs.Report.{concat, reportTag, reportBody}
 use Rattle.report.specs.Head.{frameHead}
 use Rattle.report.proofs.Parts.{lent}
-use Rattle.report.proofs.Length.{body-length}
+use Rattle.rules.proofs.answer.Length.{body-length}
 
 module _ (number line offset : ℕ) (verdicts : List ℕ) (figures : List ℤ) (eight : length verdicts ≡ 8) (eleven : length figures ≡ 11) where
   pub framed : (l : List ℕ) → length l ≡ 104

@@ -9,6 +9,7 @@ use lib.Seq.{take-at, drop-at, set-at, drop-cons, append-snoc, drop-drop, take-s
 use borrow.Rule.Slice.PartMut.{putMid}
 use Rattle.rules.specs.Text.{hex}
 use Rattle.rules.specs.Report.{concat}
+use Rattle.rules.proofs.answer.Length.{concat-length}
 
 -- With p written, the part from n to e is lent and comes back as ys: then p and ys are written.
 pub lent : (p ys l : List ℕ) (n e : ℕ) → length p ≡ n → n ≤ e → putMid n (e - n) (p ++ drop n l) ys ≡ (p ++ ys) ++ drop e l
@@ -24,12 +25,6 @@ concat-snoc : {A : Type 0} (f : A → List ℕ) (xs : List A) (x : A) → concat
 unfolding concat
 concat-snoc f [] x = append-nil (f x)
 concat-snoc f (y ∷ xs) x = rw (concat-snoc f xs x) (sym (append-assoc (f y) (concat (map f xs)) (f x)))
-
--- Parts of one size each, for the elements of a list.
-pub concat-length : {A : Type 0} (f : A → List ℕ) (m : ℕ) → ((x : A) → length (f x) ≡ m) → (xs : List A) → length (concat (map f xs)) ≡ m * length xs
-unfolding concat
-concat-length f m size [] = omega arith
-concat-length f m size (x ∷ xs) = rw (length-append (f x) (concat (map f xs)), size x, concat-length f m size xs) (omega arith)
 
 -- A buffer with the parts of the first k elements written.
 abbrev pub written : {A : Type 0} → (A → List ℕ) → ℕ → List A → ℕ → List ℕ → List ℕ

@@ -1,2 +1,4 @@
 -- What is sent back: laws of specs/Report and Answer.
 pub mod Steps
+pub mod Length
+pub mod Columns

@@ -3,3 +3,4 @@ pub mod Cases
 pub mod Bench
 pub mod Slips
 pub mod Drawing
+pub mod Regrouped

@@ -1,13 +1,22 @@
 -- The tree of entries by its leaves: sums over it, and the same leaves with no groups around them.
+use mathlib.Core.Path.{_≡_}
 use Prim.Native.Nat.{ℕ, _+_}
 use Rattle.rules.specs.Layout.{Entries, end, leaf, group, Reading}
-use Rattle.rules.specs.Loading.{Entry}
+use Rattle.rules.specs.Loading.{Entry, mass, moment, freeSurface}
 
 -- The sum over the leaves of the tree, each once.
 unfoldable pub sumLeaves : (Entry → ℕ) → Entries → ℕ
 sumLeaves f end = 0
 sumLeaves f (leaf k v r) = f (record { kind = k; values = v }) + sumLeaves f r
 sumLeaves f (group g r) = sumLeaves f g + sumLeaves f r
+
+-- Two readings of one ship, table and weather whose leaves have the same sums: of masses, and of moments with free surface moments.
+pub record SameSums (r s : Reading) : Type 0 where
+  pub ship : r .ship ≡ s .ship
+  pub rows : r .rows ≡ s .rows
+  pub weather : r .condition .weather ≡ s .condition .weather
+  pub masses : sumLeaves mass (r .condition .load) ≡ sumLeaves mass (s .condition .load)
+  pub moments : sumLeaves moment (r .condition .load) + sumLeaves freeSurface (r .condition .load) ≡ sumLeaves moment (s .condition .load) + sumLeaves freeSurface (s .condition .load)
 
 -- Entries, and others behind them.
 unfoldable pub followed : Entries → Entries → Entries

@@ -14,5 +14,6 @@ pub mod Curve
 pub mod Criteria
 pub mod Roll
 pub mod Report
+pub mod Columns
 pub mod Answer
 pub mod Ranges

@@ -27,7 +27,7 @@ row2 = "A2002200186A001130119400000189030F04970620078A08FC0A220B050BA20C5C0CCD0D
 abbrev pub with : String → List ℕ
 with condition = lines (ship ∷ row1 ∷ row2 ∷ condition ∷ [])
 
-abbrev P1 : List ℕ
+abbrev pub P1 : List ℕ
 P1 = with "A30018C1000C000009C40FA002BC01F400C8C2000600155CC00FA0"
 
 abbrev pub P1-output : List ℕ

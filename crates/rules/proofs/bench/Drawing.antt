@@ -18,16 +18,16 @@ abbrev pub drawing : List ℕ
 drawing = with "A30037C1000C000009C40FA002BC01F400C8C40014C40022C3000E000AAE600FA001F4040100000064C3000E000AAE600FA001F4040100000064"
 
 -- As the layout has it.
-abbrev hull : Ship
+abbrev pub hull : Ship
 hull = record { hullLength = 50_000; breadth = 10_000; keelArea = 0; bilge = 0 }
 
 abbrev levers : List ℕ
 levers = 0 ∷ 393 ∷ 783 ∷ 1175 ∷ 1568 ∷ 1930 ∷ 2300 ∷ 2594 ∷ 2821 ∷ 2978 ∷ 3164 ∷ 3277 ∷ 3400 ∷ []
 
-abbrev rows : List Row
+abbrev pub rows : List Row
 rows = record { mass = 1_400_000; draught = 4_000; km = 4_500; kn = levers } ∷ record { mass = 1_600_000; draught = 4_400; km = 4_500; kn = levers } ∷ []
 
-abbrev sky : Weather
+abbrev pub sky : Weather
 sky = record { windArea = 2_500; z = 4_000; cb = 700; flooding = 500; deckEdge = 200 }
 
 abbrev aTank : Tank

@@ -6,10 +6,10 @@ use native.Mathlib.Omega.{arith}
 use lib.ListN.{length, length-append}
 use Rattle.rules.specs.Rounding.{ceil}
 use Rattle.rules.specs.Layout.{Entries, end, leaf, group, Reading, leaves}
-use Rattle.rules.specs.Loading.{Entry, flat, total, mass, moment, freeSurface, displacement, correctedKG, weighed}
-use Rattle.rules.specs.Leaves.{sumLeaves, followed, ungrouped, loadedWith}
+use Rattle.rules.specs.Loading.{Entry, flat, total, mass, moment, freeSurface, displacement, correctedKG, entriesOf, weighedAt, weighed}
+use Rattle.rules.specs.Leaves.{sumLeaves, SameSums, followed, ungrouped, loadedWith}
 use Rattle.rules.specs.Outcome.{got, _>>_}
-use Rattle.rules.specs.Curve.{loaded}
+use Rattle.rules.specs.Curve.{loadedAt, loaded}
 use Rattle.rules.specs.Report.{judgement}
 use Rattle.rules.specs.Answer.{judged}
 
@@ -54,16 +54,30 @@ flat-ungrouped end = refl
 flat-ungrouped (leaf k v r) = ap (record { kind = k; values = v } ∷_) (flat-ungrouped r)
 flat-ungrouped (group g r) = flat-followed (ungrouped g) (ungrouped r) ∙ ap₂ _++_ (flat-ungrouped g) (flat-ungrouped r)
 
--- Loads of the same entries are judged alike.
-module _ (r : Reading) (F G : Entries) (e : flat F ≡ flat G) where
-  weighed-same : weighed (loadedWith r F) ≡ weighed (loadedWith r G)
+-- ---- what is judged
+-- W, KG and what they are judged with settle the judgement: readings of one ship, table and weather, with one W and one KG, are judged alike.
+module _ (r s : Reading) (ship : r .ship ≡ s .ship) (rows : r .rows ≡ s .rows) (weather : r .condition .weather ≡ s .condition .weather) (w : displacement (entriesOf r) ≡ displacement (entriesOf s)) (kg : correctedKG (entriesOf r) ≡ correctedKG (entriesOf s)) where
+  weighed-same : weighed r ≡ weighed s
   unfolding weighed
-  weighed-same = rw e
+  weighed-same = λ i. weighedAt (rows i) (w i) (kg i)
 
-  loaded-same : loaded (loadedWith r F) ≡ loaded (loadedWith r G)
+  loaded-same : loaded r ≡ loaded s
   unfolding loaded
-  loaded-same = rw e
+  loaded-same = λ i. loadedAt (ship i) (rows i) (weather i) (w i) (kg i)
 
-  pub judged-same : judged (loadedWith r F) ≡ judged (loadedWith r G)
+  judged-by : judged r ≡ judged s
   unfolding judged
-  judged-same = ap₂ (λ a b. a >> got (judgement b)) weighed-same loaded-same
+  judged-by = ap₂ (λ a b. a >> got (judgement b)) weighed-same loaded-same
+
+-- So are readings of the same sums.
+pub judged-by-sums : (r s : Reading) → SameSums r s → judged r ≡ judged s
+judged-by-sums r s S =
+    let F = r .condition .load in
+    let G = s .condition .load in
+    judged-by r s (S .ship) (S .rows) (S .weather)
+    (displacement-leaves F ∙ S .masses ∙ sym (displacement-leaves G))
+    (correctedKG-leaves F ∙ ap₂ ceil (S .moments) (S .masses) ∙ sym (correctedKG-leaves G))
+
+-- And loads of the same entries.
+pub judged-same : (r : Reading) (F G : Entries) → flat F ≡ flat G → judged (loadedWith r F) ≡ judged (loadedWith r G)
+judged-same r F G e = judged-by (loadedWith r F) (loadedWith r G) refl refl refl (ap displacement e) (ap correctedKG e)

@@ -1,0 +1,97 @@
+-- What stands in each column of a report: its refusal, line and offset, each verdict and each figure.
+use mathlib.Core.Path.{_≡_, refl, ap, sym, _∙_}
+use mathlib.Core.List.{List, [], _∷_, _++_, map}
+use Prim.Native.Nat.{ℕ, zero, suc, _+_, _*_, _≤_, _<_}
+use native.Mathlib.Omega.{arith}
+use lib.IntN.{ℤ, pos}
+use lib.ListN.{length, take, drop, getD, length-drop}
+use lib.Seq.{take-at, take-append-le, drop-append-le, drop-append-add, drop-drop, drop-cons}
+use Rattle.rules.specs.Numbers.{digits, twos}
+use Rattle.rules.specs.Text.{LF, hex}
+use Rattle.rules.specs.Blocks.{block}
+use Rattle.rules.specs.Report.{concat, reportTag, reportBody, reportLine}
+use Rattle.rules.specs.Columns.{characters, refusalIn, lineIn, offsetIn, verdictIn, figureIn}
+use Rattle.rules.proofs.layout.Lines.{length-hex}
+use Rattle.rules.proofs.layout.Numbers.{length-digits}
+use Rattle.rules.proofs.answer.Length.{frame-length}
+
+-- ---- two characters to a byte
+hex-drop : (n : ℕ) (s : List ℕ) → drop (2 * n) (hex s) ≡ hex (drop n s)
+unfolding hex
+hex-drop zero s = refl
+hex-drop (suc n) [] = let e : 2 * suc n ≡ suc (suc (2 * n)) = omega arith in rw e
+hex-drop (suc n) (b ∷ s) = let e : 2 * suc n ≡ suc (suc (2 * n)) = omega arith in rw e (hex-drop n s)
+
+hex-take : (n : ℕ) (s : List ℕ) → take (2 * n) (hex s) ≡ hex (take n s)
+unfolding hex
+hex-take zero s = refl
+hex-take (suc n) [] = let e : 2 * suc n ≡ suc (suc (2 * n)) = omega arith in rw e
+hex-take (suc n) (b ∷ s) = let e : 2 * suc n ≡ suc (suc (2 * n)) = omega arith in rw (e, hex-take n s)
+
+-- The characters of n bytes from byte a on, of a line with something behind it.
+hex-part : (s rest : List ℕ) (a n : ℕ) → a + n ≤ length s → characters (2 * a) (2 * n) (hex s ++ rest) ≡ hex (take n (drop a s))
+hex-part s rest a n h =
+    rw (drop-append-le (2 * a) (hex s) rest (omega (arith, length-hex s)), hex-drop a s, take-append-le (2 * n) (hex (drop a s)) rest (omega (arith, length-hex (drop a s), length-drop a s)))
+    (hex-take n (drop a s))
+
+-- ---- parts of one size
+concat-part : {A : Type 0} (f : A → List ℕ) (m : ℕ) → ((x : A) → length (f x) ≡ m) → (d : A) (xs : List A) (i : ℕ) → i < length xs → take m (drop (m * i) (concat (map f xs))) ≡ f (getD xs i d)
+unfolding concat
+concat-part f m size d [] i h = absurd (omega arith)
+concat-part f m size d (x ∷ xs) zero h = let e : m * 0 ≡ 0 = omega arith in rw e (take-at (f x) (concat (map f xs)) m (size x))
+concat-part f m size d (x ∷ xs) (suc i) h =
+    let e : m * suc i ≡ length (f x) + m * i = omega (arith, size x) in
+    rw (e, drop-append-add (f x) (concat (map f xs)) (m * i)) (concat-part f m size d xs i (omega arith))
+
+-- ---- the columns
+-- What stands behind a report does not touch them.
+pub column-front : (s rest : List ℕ) (at n : ℕ) → at + n ≤ length s → characters at n (s ++ rest) ≡ characters at n s
+column-front s rest at n h = rw (drop-append-le at s rest (omega arith)) (take-append-le n (drop at s) rest (omega (arith, length-drop at s)))
+
+module _ (number line offset : ℕ) (verdicts : List ℕ) (figures : List ℤ) (eight : length verdicts ≡ 8) (eleven : length figures ≡ 11) where
+  abbrev frame : List ℕ
+  frame = block reportTag (reportBody number line offset verdicts figures)
+
+  abbrev long : length frame ≡ 104
+  long = frame-length number line offset verdicts figures eight eleven
+
+  column : (a n : ℕ) → a + n ≤ 104 → characters (2 * a) (2 * n) (reportLine number line offset verdicts figures) ≡ hex (take n (drop a frame))
+  unfolding reportLine
+  column a n h = hex-part frame (LF ∷ []) a n (omega (arith, long))
+
+  pub refusal-column : refusalIn (reportLine number line offset verdicts figures) ≡ hex (digits 1 number)
+  unfolding block reportBody digits
+  refusal-column = column 3 1 (omega arith)
+
+  pub line-column : lineIn (reportLine number line offset verdicts figures) ≡ hex (digits 2 line)
+  unfolding block reportBody digits
+  line-column = column 4 2 (omega arith)
+
+  pub offset-column : offsetIn (reportLine number line offset verdicts figures) ≡ hex (digits 2 offset)
+  unfolding block reportBody digits
+  offset-column = column 6 2 (omega arith)
+
+  -- Behind the head stand the verdicts, and then the figures.
+  abbrev G : List ℕ
+  G = concat (map (λ z. digits 8 (twos z)) figures)
+
+  verdicts-behind : drop 8 frame ≡ verdicts ++ G
+  unfolding block reportBody digits
+  verdicts-behind = refl
+
+  verdict-behind : (i : ℕ) → i < 8 → drop (8 + i) frame ≡ getD verdicts i 0 ∷ (drop (suc i) verdicts ++ G)
+  verdict-behind i h = rw (← (drop-drop i 8 frame), verdicts-behind, drop-append-le i verdicts G (omega arith), drop-cons verdicts i 0 (omega arith))
+
+  figure-behind : (i : ℕ) → drop (16 + 8 * i) frame ≡ drop (8 * i) G
+  figure-behind i =
+      let k : 16 + 8 * i ≡ 8 + (length verdicts + 8 * i) = omega arith in
+      rw (k, ← (drop-drop (length verdicts + 8 * i) 8 frame), verdicts-behind) (drop-append-add verdicts G (8 * i))
+
+  pub verdict-column : (i : ℕ) → i < 8 → verdictIn i (reportLine number line offset verdicts figures) ≡ hex (getD verdicts i 0 ∷ [])
+  verdict-column i h = let e : 16 + 2 * i ≡ 2 * (8 + i) = omega arith in rw e (column (8 + i) 1 (omega arith) ∙ ap (λ (s : List ℕ). hex (take 1 s)) (verdict-behind i h))
+
+  pub figure-column : (i : ℕ) → i < 11 → figureIn i (reportLine number line offset verdicts figures) ≡ hex (digits 8 (twos (getD figures i (pos 0))))
+  figure-column i h =
+      let e : 32 + 16 * i ≡ 2 * (16 + 8 * i) = omega arith in
+      let s = concat-part (λ z. digits 8 (twos z)) 8 (λ z. length-digits 8 (twos z)) (pos 0) figures i (omega arith) in
+      rw e (column (16 + 8 * i) 8 (omega arith) ∙ ap (λ (s : List ℕ). hex (take 8 s)) (figure-behind i) ∙ ap hex s)

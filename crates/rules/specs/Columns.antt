@@ -1,0 +1,24 @@
+-- Where each number stands among a report's characters: tag and length in the first six, then 'refusal 1, line 2, offset 2, eight verdicts of 1 byte, eleven figures' of 8, two characters to a byte.
+use mathlib.Core.List.{List}
+use Prim.Native.Nat.{ℕ, _+_, _*_}
+use lib.ListN.{take, drop}
+
+-- The n characters from a place on.
+abbrev pub characters : ℕ → ℕ → List ℕ → List ℕ
+characters at n s = take n (drop at s)
+
+abbrev pub refusalIn : List ℕ → List ℕ
+refusalIn s = characters 6 2 s
+
+abbrev pub lineIn : List ℕ → List ℕ
+lineIn s = characters 8 4 s
+
+abbrev pub offsetIn : List ℕ → List ℕ
+offsetIn s = characters 12 4 s
+
+-- Verdict i and figure i, counted from 0.
+abbrev pub verdictIn : ℕ → List ℕ → List ℕ
+verdictIn i s = characters (16 + 2 * i) 2 s
+
+abbrev pub figureIn : ℕ → List ℕ → List ℕ
+figureIn i s = characters (32 + 16 * i) 16 s
