@@ -16,6 +16,7 @@ use Rattle.rules.specs.Roll.{phi1, start, farthest, net, noGust}
 use Rattle.rules.specs.Report.{pass, judgement}
 use Rattle.rules.proofs.rounding.Signed.{up, dn, eq!, add≡, diff≡}
 use Rattle.earned.specs.Example.{text, reading}
+use Rattle.rules.proofs.criteria.Angles.{gust}
 use Rattle.earned.specs.Gust.{yBy, phi0By, startBy, eBy, netBy, gusts, Exactly, NowhereBelow}
 use Rattle.earned.proofs.Grid.{over, part}
 use Rattle.earned.proofs.Eighth.{straight, pieces}
@@ -51,7 +52,7 @@ gusty = refl
 -- phi0 lies 12,683 parts beyond 13.1 degrees; e is the flooding angle, 45 degrees.
 heel : phi0By parts loading ≡ parts * 131 + 12_683
 unfolding loaded judgement
-heel = heel-at parts (omega arith) loading begins gusty 131 12_683 9_424 refl refl refl
+heel = heel-at parts (omega arith) loading begins (gust loading gusty .0) 131 12_683 9_424 refl refl refl
 
 last : eBy parts loading ≡ parts * farthest loading
 unfolding loaded judgement
@@ -59,7 +60,7 @@ last = end-far parts (omega arith) loading begins gusty refl
 
 pub exactly : Exactly parts loading
 unfolding loaded judgement
-exactly = record { heel = heel-meets parts (omega arith) loading begins gusty 131 12_683 9_424 refl refl refl; end = λ h. absurd (omega (arith, last)) }
+exactly = record { heel = heel-meets parts (omega arith) loading begins (gust loading gusty .0) 131 12_683 9_424 refl refl refl; end = λ h. absurd (omega (arith, last)) }
 
 abbrev level : ℕ
 level = 5_000_000 * lw2 loading

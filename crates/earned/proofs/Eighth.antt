@@ -15,7 +15,7 @@ use Rattle.rules.specs.Report.{verdict, pass, unjudged, fail, verdict8}
 use Rattle.rules.proofs.rounding.Signed.{up, dn, Le, Lt, eq!, at-least, abs-pos, add≡, diff≡, up-neg, dn-neg, up-mull, dn-mull}
 use Rattle.rules.proofs.rounding.Divisions.{lw2-up}
 use Rattle.rules.proofs.criteria.Ranges.{judged, phi1-from}
-use Rattle.rules.proofs.criteria.Angles.{u-is, e-is}
+use Rattle.rules.proofs.criteria.Angles.{gust, u-is, e-is}
 use Rattle.earned.specs.Gust.{leverBy, yBy, unitsBy, phi0By, startBy, eBy, netBy, gusts, NowhereBelow}
 use Rattle.earned.proofs.Steps.{lee, between}
 use Rattle.earned.proofs.Grid.{over, cut, not-negative, not-positive, net-is, linear, Between, between-over, whole}
@@ -81,7 +81,7 @@ module _ (q : ℕ) (some : 0 < q) (c : Loaded) (upright : y c (pos 0) ≡ pos 0)
   module _ (gusty : noGust c ≡ false) (high : NowhereBelow c) where
     calm : (x : ℤ) → Le (pos q *ℤ start c) x → Lt x (pos (phi0By q c)) → Le (yBy q c x) (unitsBy q (lw2 c))
     unfolding yBy leverZ
-    calm (pos x) from to = omega (arith, heel-is q some c upright gusty .before x (omega arith) (omega arith), mul-le-mul-left q (let l : 5_000_000 * lw1 c ≤ level = omega (arith, lw2-up c .over) in l))
+    calm (pos x) from to = omega (arith, heel-is q some c upright (gust c gusty .0) .before x (omega arith) (omega arith), mul-le-mul-left q (let l : 5_000_000 * lw1 c ≤ level = omega (arith, lw2-up c .over) in l))
     calm (negsuc x) from to = omega (arith, up-neg (leverBy q c (suc x)), dn-neg (leverBy q c (suc x)), go (suc x / q) (suc x % q) (mod-lt (suc x) some) (div-add-mod (suc x) q))
       where
         -- t is within the reach of the windward side.
@@ -139,7 +139,7 @@ module _ (q : ℕ) (some : 0 < q) (c : Loaded) (upright : y c (pos 0) ≡ pos 0)
   -- For a roll that is no greater than the one used.
   pub eighth : (roll : ℕ) → 0 < roll → roll ≤ q * phi1 c → Le (pos 0) (netBy q roll c)
   unfolding startBy
-  eighth roll rolling no-more = go (phi0By q c + q * dn (start c) - (roll + q * up (start c))) (omega (arith, start-before q some c upright gusty)) (end-beyond q some c upright gusty)
+  eighth roll rolling no-more = go (phi0By q c + q * dn (start c) - (roll + q * up (start c))) (omega (arith, start-before q some c upright (gust c gusty .0))) (end-beyond q some c upright gusty)
     where
       go : (i : ℕ) → i + (roll + q * up (start c)) ≡ phi0By q c + q * dn (start c) → ((j : ℕ) × (eBy q c ≡ q * e c + j) × ((k : ℕ) → k ≤ j → Le (unitsBy q (lw2 c)) (yBy q c (pos (q * e c + k))))) → Le (pos 0) (netBy q roll c)
       go i at (j, end, up-there) = sum (netBy q roll c) (sumZ (gusts q c) i t) (net c) (sumZ (gusts q c) j (pos (q * e c))) (pieces q some c upright roll i j n at-start end wide inside) low (after q some c upright j up-there) net-from
@@ -151,7 +151,7 @@ module _ (q : ℕ) (some : 0 < q) (c : Loaded) (upright : y c (pos 0) ≡ pos 0)
           at-start = eq! (pos (phi0By q c) -ℤ pos roll) (pos q *ℤ start c +ℤ pos i) (omega (arith, diff≡ (pos (phi0By q c)) (pos roll), add≡ (pos q *ℤ start c) (pos i), up-mull q (start c), dn-mull q (start c)))
 
           inside : i ≤ q * n
-          inside = omega (arith, heel-to q some c upright gusty, mul-le-mul-left q (u-is c .low), mul-le-mul-left q (e-is c gusty .low), ap (λ (k : ℕ). q * k) (ap up wide), ap (λ (k : ℕ). q * k) (ap dn wide), ap (λ (k : ℕ). q * k) (add≡ (start c) (pos n)))
+          inside = omega (arith, heel-to q some c upright (gust c gusty .0), mul-le-mul-left q (u-is c .low), mul-le-mul-left q (e-is c gusty .low), ap (λ (k : ℕ). q * k) (ap up wide), ap (λ (k : ℕ). q * k) (ap dn wide), ap (λ (k : ℕ). q * k) (add≡ (start c) (pos n)))
 
           -- Up to the start: not above zero.
           low : Le (sumZ (gusts q c) i (pos q *ℤ start c)) (pos 0)

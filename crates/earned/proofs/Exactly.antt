@@ -6,7 +6,7 @@ use native.Mathlib.Omega.{arith}
 use native.Mathlib.Nat.{mul-le-mul-left, mul-pos}
 use native.Mathlib.Decide.{decLe, ℕ-discrete}
 use lib.IntN.{ℤ, pos, +ℤ-comm, _+ℤ_, _*ℤ_}
-use Rattle.rules.specs.Curve.{Loaded, y}
+use Rattle.rules.specs.Curve.{Loaded, y, E}
 use Rattle.rules.specs.Criteria.{lw1, lw2, units, phi0}
 use Rattle.rules.specs.Roll.{farthest, e, noGust}
 use Rattle.rules.proofs.rounding.Signed.{up, dn, Le, Lt, eq! }
@@ -19,7 +19,7 @@ use Rattle.earned.proofs.Finer.{at, heel-is, heel-hit, heel-from, heel-
 line-on : (p i d : ℕ) (a b : ℤ) → let x = pos (p + d) *ℤ a +ℤ pos i *ℤ b in let x′ = pos p *ℤ a +ℤ pos (i + d) *ℤ b in up x′ + dn x + (d * up a + d * dn b) ≡ up x + dn x′ + (d * up b + d * dn a)
 line-on p i d a b = omega (arith, linear (p + d) i a b, linear p (i + d) a b)
 
-module _ (q : ℕ) (some : 0 < q) (c : Loaded) (upright : y c (pos 0) ≡ pos 0) (gusty : noGust c ≡ false) where
+module _ (q : ℕ) (some : 0 < q) (c : Loaded) (upright : y c (pos 0) ≡ pos 0) (reached : phi0 c ≤ E c) where
   -- ---- phi0: where the line between its tenth and the one before has lw1
   module _ (m i p : ℕ) (tenth : phi0 c ≡ suc m) (all : p + i ≡ q) (meets : pos p *ℤ y c (pos m) +ℤ pos i *ℤ y c (pos (m + 1)) ≡ unitsBy q (lw1 c)) where
     abbrev a : ℤ
@@ -29,7 +29,7 @@ module _ (q : ℕ) (some : 0 < q) (c : Loaded) (upright : y c (pos 0) ≡ pos 0)
     b = y c (pos (m + 1))
 
     rises : Lt a b
-    rises = let next : phi0 c ≡ m + 1 = omega arith in omega (arith, phi0-is c .before m (omega arith) (omega arith), subst (λ (t : ℕ). Le (units (lw1 c)) (y c (pos t))) next (phi0-is c .hit (gust c gusty .0)))
+    rises = let next : phi0 c ≡ m + 1 = omega arith in omega (arith, phi0-is c .before m (omega arith) (omega arith), subst (λ (t : ℕ). Le (units (lw1 c)) (y c (pos t))) next (phi0-is c .hit reached))
 
     here : yBy q c (pos (q * m + i)) ≡ unitsBy q (lw1 c)
     here = let z : q - i ≡ p = omega arith in at q some c upright (q * m + i) m i refl (omega arith) ∙ ap (λ (k : ℕ). pos k *ℤ a +ℤ pos i *ℤ b) z ∙ meets
@@ -37,7 +37,7 @@ module _ (q : ℕ) (some : 0 < q) (c : Loaded) (upright : y c (pos 0) ≡ pos 0)
     no-later : phi0By q c ≤ q * m + i
     no-later = elim (decLe (phi0By q c) (q * m + i)) [
       | yes k ↦ k
-      | no k ↦ absurd (omega (arith, heel-is q some c upright gusty .before (q * m + i) (omega arith) (omega arith), ap up here, ap dn here))
+      | no k ↦ absurd (omega (arith, heel-is q some c upright reached .before (q * m + i) (omega arith) (omega arith), ap up here, ap dn here))
     ]
 
     pub heel-at : phi0By q c ≡ q * m + i
@@ -48,14 +48,14 @@ module _ (q : ℕ) (some : 0 < q) (c : Loaded) (upright : y c (pos 0) ≡ pos 0)
       where
         earlier : phi0By q c < q * m + i → ⊥
         earlier k =
-            let from = heel-from q some c upright gusty m tenth in
+            let from = heel-from q some c upright reached m tenth in
             let i′ = phi0By q c - q * m in
             let d = i - i′ in
             let parts : q - i′ ≡ p + d = omega arith in
             let sum : i′ + d ≡ i = omega arith in
             let there : yBy q c (pos (phi0By q c)) ≡ pos (p + d) *ℤ a +ℤ pos i′ *ℤ b = at q some c upright (phi0By q c) m i′ (omega arith) (omega arith) ∙ ap (λ (k : ℕ). pos k *ℤ a +ℤ pos i′ *ℤ b) parts in
             let meets′ : pos p *ℤ a +ℤ pos (i′ + d) *ℤ b ≡ unitsBy q (lw1 c) = ap (λ (k : ℕ). pos p *ℤ a +ℤ pos k *ℤ b) sum ∙ meets in
-            go d (omega arith) (pos (p + d) *ℤ a +ℤ pos i′ *ℤ b) (pos p *ℤ a +ℤ pos (i′ + d) *ℤ b) (line-on p i′ d a b) (subst (λ (z : ℤ). Le (unitsBy q (lw1 c)) z) there (heel-hit q some c upright gusty)) meets′
+            go d (omega arith) (pos (p + d) *ℤ a +ℤ pos i′ *ℤ b) (pos p *ℤ a +ℤ pos (i′ + d) *ℤ b) (line-on p i′ d a b) (subst (λ (z : ℤ). Le (unitsBy q (lw1 c)) z) there (heel-hit q some c upright reached)) meets′
           where
             go : (d : ℕ) → 0 < d → (x x′ : ℤ) → up x′ + dn x + (d * up a + d * dn b) ≡ up x + dn x′ + (d * up b + d * dn a) → Le (unitsBy q (lw1 c)) x → x′ ≡ unitsBy q (lw1 c) → ⊥
             go d l x x′ h k w = omega (arith, mul-le-mul-left d rises, ap up w, ap dn w)
@@ -63,6 +63,7 @@ module _ (q : ℕ) (some : 0 < q) (c : Loaded) (upright : y c (pos 0) ≡ pos 0)
     pub heel-meets : yBy q c (pos (phi0By q c)) ≡ unitsBy q (lw1 c)
     heel-meets = ap (λ (x : ℕ). yBy q c (pos x)) heel-at ∙ here
 
+module _ (q : ℕ) (some : 0 < q) (c : Loaded) (upright : y c (pos 0) ≡ pos 0) (gusty : noGust c ≡ false) where
   -- ---- e: min(E, 500), or where the line between its tenth and the next has lw2
   pub end-far : e c ≡ farthest c → eBy q c ≡ q * farthest c
   end-far far = let b = end-beyond q some c upright gusty in omega (arith, end-is q some c upright gusty .high, b .1, ap (λ (k : ℕ). q * k) far)
@@ -116,14 +117,14 @@ module _ (q : ℕ) (some : 0 < q) (c : Loaded) (upright : y c (pos 0) ≡ pos 0)
 through : (x w K l : ℕ) (a b : ℤ) → up a + x ≡ l + dn a → up b ≡ l + w + dn b → pos (w * K) *ℤ a +ℤ pos (x * K) *ℤ b ≡ pos ((x + w) * K * l)
 through x w K l a b h k = eq! (pos (w * K) *ℤ a +ℤ pos (x * K) *ℤ b) (pos ((x + w) * K * l)) (omega (arith, linear (w * K) (x * K) a b, ap (λ (n : ℕ). w * K * n) h, ap (λ (n : ℕ). x * K * n) k))
 
-module _ (c : Loaded) (upright : y c (pos 0) ≡ pos 0) (gusty : noGust c ≡ false) where
-  -- So many parts, and any multiple of them, will do.
-  abbrev Enough : (ℕ → Type 0) → Type 0
-  Enough P = (D : ℕ) × (0 < D) × ((K q : ℕ) → 0 < K → D * K ≡ q → P q)
+-- So many parts, and any multiple of them, will do.
+abbrev Enough : (ℕ → Type 0) → Type 0
+Enough P = (D : ℕ) × (0 < D) × ((K q : ℕ) → 0 < K → D * K ≡ q → P q)
 
-  times : (D K q : ℕ) → 0 < D → 0 < K → D * K ≡ q → 0 < q
-  times D K q h k e = omega (arith, mul-pos h k)
+times : (D K q : ℕ) → 0 < D → 0 < K → D * K ≡ q → 0 < q
+times D K q h k e = omega (arith, mul-pos h k)
 
+module _ (c : Loaded) (upright : y c (pos 0) ≡ pos 0) (reached : phi0 c ≤ E c) where
   heel-parts : Enough (λ q. yBy q c (pos (phi0By q c)) ≡ unitsBy q (lw1 c))
   heel-parts = go (phi0 c) refl
     where
@@ -137,10 +138,10 @@ module _ (c : Loaded) (upright : y c (pos 0) ≡ pos 0) (gusty : noGust c ≡ fa
           here = ap (λ (t : ℕ). y c (pos t)) z ∙ upright
 
           none : level ≡ 0
-          none = omega (arith, ap up here, ap dn here, phi0-is c .hit (gust c gusty .0))
+          none = omega (arith, ap up here, ap dn here, phi0-is c .hit reached)
 
           whole : (q : ℕ) → 0 < q → yBy q c (pos (phi0By q c)) ≡ unitsBy q (lw1 c)
-          whole q some = ap (λ (x : ℕ). yBy q c (pos x)) (heel-whole q some c upright gusty (here ∙ ap pos (sym none))) ∙ at q some c upright (q * phi0 c) (phi0 c) 0 (omega arith) (omega arith) ∙ nothing (y c (pos (phi0 c))) (y c (pos (phi0 c + 1))) here
+          whole q some = ap (λ (x : ℕ). yBy q c (pos x)) (heel-whole q some c upright reached (here ∙ ap pos (sym none))) ∙ at q some c upright (q * phi0 c) (phi0 c) 0 (omega arith) (omega arith) ∙ nothing (y c (pos (phi0 c))) (y c (pos (phi0 c + 1))) here
             where
               nothing : (a b : ℤ) → a ≡ pos 0 → pos (q - 0) *ℤ a +ℤ pos 0 *ℤ b ≡ pos (q * level)
               nothing a b h = rw (none, h) (eq! (pos (q - 0) *ℤ pos 0 +ℤ pos 0 *ℤ b) (pos (q * 0)) (omega (arith, linear (q - 0) 0 (pos 0) b)))
@@ -149,11 +150,15 @@ module _ (c : Loaded) (upright : y c (pos 0) ≡ pos 0) (gusty : noGust c ≡ fa
           let b = y c (pos (m + 1)) in
           let next : phi0 c ≡ m + 1 = omega arith in
           let below = phi0-is c .before m (omega arith) (omega arith) in
-          let above = subst (λ (t : ℕ). Le (units (lw1 c)) (y c (pos t))) next (phi0-is c .hit (gust c gusty .0)) in
+          let above = subst (λ (t : ℕ). Le (units (lw1 c)) (y c (pos t))) next (phi0-is c .hit reached) in
           let x = level + dn a - up a in
           let w = up b - (level + dn b) in
-          (x + w, omega arith, λ K q more h. heel-meets q (times (x + w) K q (omega arith) more h) c upright gusty m (x * K) (w * K) z (omega arith) (through x w K level a b (omega arith) (omega arith) ∙ ap (λ (n : ℕ). pos (n * level)) h))
+          (x + w, omega arith, λ K q more h. heel-meets q (times (x + w) K q (omega arith) more h) c upright reached m (x * K) (w * K) z (omega arith) (through x w K level a b (omega arith) (omega arith) ∙ ap (λ (n : ℕ). pos (n * level)) h))
 
+  pub heel-enough : (Q : ℕ) × (0 < Q) × ((k : ℕ) → 0 < k → yBy (k * Q) c (pos (phi0By (k * Q) c)) ≡ unitsBy (k * Q) (lw1 c))
+  heel-enough = let a = heel-parts in (a .0, a .1, λ k some. a .2 k (k * a .0) some (omega arith))
+
+module _ (c : Loaded) (upright : y c (pos 0) ≡ pos 0) (gusty : noGust c ≡ false) where
   end-parts : Enough (λ q. eBy q c < q * farthest c → yBy q c (pos (eBy q c)) ≡ unitsBy q (lw2 c))
   end-parts = elim (ℕ-discrete (e c) (farthest c)) [
     | yes z ↦ (1, omega arith, λ K q more h k. absurd (omega (arith, end-far q (times 1 K q (omega arith) more h) c upright gusty z)))
@@ -176,7 +181,7 @@ module _ (c : Loaded) (upright : y c (pos 0) ≡ pos 0) (gusty : noGust c ≡ fa
 
   pub fine-enough : (Q : ℕ) × (0 < Q) × ((k : ℕ) → 0 < k → Exactly (k * Q) c)
   fine-enough =
-      let a = heel-parts in
+      let a = heel-parts c upright (gust c gusty .0) in
       let b = end-parts in (
         a .0 * b .0,
         mul-pos (a .1) (b .1),

@@ -77,7 +77,7 @@ module _ (q : ℕ) (some : 0 < q) (c : Loaded) (upright : y c (pos 0) ≡ pos 0)
   ]
 
   -- ---- phi0
-  module _ (gusty : noGust c ≡ false) where
+  module _ (reached : phi0 c ≤ E c) where
     pub heel-is : Reaches (yBy q c) (unitsBy q (lw1 c)) 0 (q * E c) (phi0By q c)
     unfolding phi0By
     heel-is = reaches-is (yBy q c) (unitsBy q (lw1 c)) 0 (q * E c)
@@ -85,11 +85,11 @@ module _ (q : ℕ) (some : 0 < q) (c : Loaded) (upright : y c (pos 0) ≡ pos 0)
     pub heel-to : phi0By q c ≤ q * phi0 c
     heel-to = elim (decLe (phi0By q c) (q * phi0 c)) [
       | yes k ↦ k
-      | no k ↦ absurd (omega (arith, heel-is .before (q * phi0 c) (omega arith) (omega arith), above (5_000_000 * lw1 c) (q * phi0 c) (phi0 c) 0 (omega arith) (omega arith) (phi0-is c .hit (gust c gusty .0)) (λ none. absurd (omega arith))))
+      | no k ↦ absurd (omega (arith, heel-is .before (q * phi0 c) (omega arith) (omega arith), above (5_000_000 * lw1 c) (q * phi0 c) (phi0 c) 0 (omega arith) (omega arith) (phi0-is c .hit reached) (λ none. absurd (omega arith))))
     ]
 
     pub heel-hit : Le (unitsBy q (lw1 c)) (yBy q c (pos (phi0By q c)))
-    heel-hit = heel-is .hit (omega (arith, heel-to, mul-le-mul-left q (gust c gusty .0)))
+    heel-hit = heel-is .hit (omega (arith, heel-to, mul-le-mul-left q reached))
 
     -- Later than the tenth before the one used.
     pub heel-from : (m : ℕ) → phi0 c ≡ suc m → q * m < phi0By q c
@@ -97,6 +97,14 @@ module _ (q : ℕ) (some : 0 < q) (c : Loaded) (upright : y c (pos 0) ≡ pos 0)
       | no k ↦ omega arith
       | yes k ↦ absurd (omega (arith, heel-hit, up-to (5_000_000 * lw1 c) m (λ t i. phi0-is c .before t (omega arith) (omega arith)) (phi0By q c) k))
     ]
+
+    -- So it lies within the tenth that ends at the one used.
+    pub heel-within : q * phi0 c < phi0By q c + q
+    heel-within = go (phi0 c) refl
+      where
+        go : (n : ℕ) → phi0 c ≡ n → q * n < phi0By q c + q
+        go zero z = omega arith
+        go (suc m) z = omega (arith, heel-from m z)
 
     -- On a tenth, that tenth.
     pub heel-whole : y c (pos (phi0 c)) ≡ units (lw1 c) → phi0By q c ≡ q * phi0 c
@@ -119,9 +127,10 @@ module _ (q : ℕ) (some : 0 < q) (c : Loaded) (upright : y c (pos 0) ≡ pos 0)
         go (yes k) n z = from-heel (phi0 c) (start-at c k) (omega (arith, heel-whole k))
         go (no k) zero z =
             let here : y c (pos (phi0 c)) ≡ pos 0 = ap (λ (t : ℕ). y c (pos t)) z ∙ upright in
-            absurd (k (eq! (y c (pos (phi0 c))) (units (lw1 c)) (omega (arith, ap up here, ap dn here, phi0-is c .hit (gust c gusty .0)))))
-        go (no k) (suc m) z = from-heel m (angles.start-before c (gust c gusty .0) k ∙ ap (λ (s : ℤ). s -ℤ pos (phi1 c)) (one-before (phi0 c) m z)) (omega (arith, heel-from m z))
+            absurd (k (eq! (y c (pos (phi0 c))) (units (lw1 c)) (omega (arith, ap up here, ap dn here, phi0-is c .hit reached))))
+        go (no k) (suc m) z = from-heel m (angles.start-before c reached k ∙ ap (λ (s : ℤ). s -ℤ pos (phi1 c)) (one-before (phi0 c) m z)) (omega (arith, heel-from m z))
 
+  module _ (gusty : noGust c ≡ false) where
     -- ---- u
     under-gust : (t : ℕ) → t < u c → Lt (y c (pos t)) (units (lw2 c))
     under-gust t l = elim (decLe (phi0 c) t) [
@@ -136,7 +145,7 @@ module _ (q : ℕ) (some : 0 < q) (c : Loaded) (upright : y c (pos 0) ≡ pos 0)
     rise-to : uBy q c ≤ q * u c
     rise-to = elim (decLe (uBy q c) (q * u c)) [
       | yes k ↦ k
-      | no k ↦ absurd (omega (arith, rise-is .before (q * u c) (omega (arith, heel-to, mul-le-mul-left q (u-is c .low))) (omega arith), above (5_000_000 * lw2 c) (q * u c) (u c) 0 (omega arith) (omega arith) (u-is c .hit (gust c gusty .1)) (λ none. absurd (omega arith))))
+      | no k ↦ absurd (omega (arith, rise-is .before (q * u c) (omega (arith, heel-to (gust c gusty .0), mul-le-mul-left q (u-is c .low))) (omega arith), above (5_000_000 * lw2 c) (q * u c) (u c) 0 (omega arith) (omega arith) (u-is c .hit (gust c gusty .1)) (λ none. absurd (omega arith))))
     ]
 
     rise-in : uBy q c ≤ q * farthest c

@@ -8,6 +8,7 @@ pub mod Steps
 pub mod Grid
 pub mod Upright
 pub mod Finer
+pub mod Seventh
 pub mod Eighth
 pub mod Exactly
 pub mod Falling

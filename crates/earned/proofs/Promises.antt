@@ -1,5 +1,5 @@
 -- Which roundings favour the ship: what is proved, to be read without the proofs. Each theorem has a sentence above it, and its proof stands elsewhere.
--- Its words are defined in specs/: Order (hulls over a denominator), Verdicts (criteria 1 to 4, 6 and 7 over one), Exact (the values of a reading before they are rounded), Limits (metre-radians), Gust (criterion 8 at parts of a tenth), Rolling (the roll before it is rounded).
+-- Its words are defined in specs/: Order (hulls over a denominator), Verdicts (criteria 1 to 4, 6 and 7 over one), Exact (the values of a reading before they are rounded), Limits (metre-radians), Gust (criteria 7 and 8 at parts of a tenth), Rolling (the roll before it is rounded).
 use mathlib.Core.Path.{_≡_, refl}
 use mathlib.Core.Bool.{true, false}
 use mathlib.Core.List.{[], _∷_}
@@ -14,8 +14,8 @@ use Rattle.rules.specs.Layout.{Reading, Limits}
 use Rattle.rules.specs.Outcome.{got}
 use Rattle.rules.specs.Walk.{read}
 use Rattle.rules.specs.Loading.{weighed}
-use Rattle.rules.specs.Curve.{Loaded, loaded}
-use Rattle.rules.specs.Criteria.{code, passes5}
+use Rattle.rules.specs.Curve.{Loaded, E, loaded}
+use Rattle.rules.specs.Criteria.{code, lw1, phi0, passes5, passes7}
 use Rattle.rules.specs.Roll.{period, phi1, start, e, net, notJudged, noGust}
 use Rattle.rules.specs.Report.{pass, void, verdict, verdict8, judgement}
 use Rattle.rules.specs.Ranges.{Fair}
@@ -28,7 +28,7 @@ use Rattle.earned.specs.Verdicts.{Criterion, one, two, three, four, six,
 use Rattle.earned.specs.Exact.{over, exact, Fractions}
 use Rattle.earned.specs.Limits.{PiFrom, PiTo, Covers}
 use Rattle.earned.specs.Example.{text, reading}
-use Rattle.earned.specs.Gust.{startBy, eBy, netBy, gusts, Exactly, NowhereBelow}
+use Rattle.earned.specs.Gust.{yBy, unitsBy, phi0By, PassesAt, startBy, eBy, netBy, gusts, Exactly, NowhereBelow}
 use Rattle.earned.specs.Rolling.{NoShorter, WithinRoll}
 use Rattle.earned.proofs.Order as orders
 use Rattle.earned.proofs.Keeps as keeping
@@ -36,6 +36,7 @@ use Rattle.earned.proofs.Exact as exacts
 use Rattle.earned.proofs.Limits as limits
 use Rattle.earned.proofs.Fifth as angle
 use Rattle.earned.proofs.Upright.{upright}
+use Rattle.earned.proofs.Seventh as heel
 use Rattle.earned.proofs.Eighth as gust
 use Rattle.earned.proofs.Rolling as rolling
 use Rattle.earned.proofs.Exactly as grid
@@ -88,6 +89,18 @@ reading-is-earned R l w = keeping.earned (over R) (exact R) (loaded R) (exacts.e
 -- Criterion 5 is not among them, for a KN rounded down can move the greatest lever out. But with KN as used, no pass of it is owed to the rounding of KG.
 pub fifth-is-earned : (D : ℕ) → 0 < D → (h : Hull) (c : Loaded) → Fair c → Behind D h c → ((i : ℕ) → getD (h .kn) i 0 ≡ D * getD (c .kn) i 0) → passes5 c ≡ true → passesFifth (c .weather) h ≡ true
 fifth-is-earned = angle.fifth
+
+-- The heel that criterion 7 judges is no less than the exact one, and by less than a tenth: at any parts of a tenth, the first part at which the curve has lw1 or more.
+pub heel-is-earned : (R : Reading) → Limits R → weighed R ≡ got tt → phi0 (loaded R) ≤ E (loaded R) → (q : ℕ) → 0 < q → (phi0By q (loaded R) ≤ q * phi0 (loaded R)) × (q * phi0 (loaded R) < phi0By q (loaded R) + q)
+heel-is-earned R l w reached q some = heel.heel q some (loaded R) (upright (loaded R) (fair R l w)) reached
+
+-- There are parts fine enough, and so is any multiple of them: there that is where the curve has lw1. So the exact heel itself is among these.
+pub exact-heel : (R : Reading) → Limits R → weighed R ≡ got tt → phi0 (loaded R) ≤ E (loaded R) → (Q : ℕ) × (0 < Q) × ((k : ℕ) → 0 < k → yBy (k * Q) (loaded R) (pos (phi0By (k * Q) (loaded R))) ≡ unitsBy (k * Q) (lw1 (loaded R)))
+exact-heel R l w reached = grid.heel-enough (loaded R) (upright (loaded R) (fair R l w)) reached
+
+-- So a pass of criterion 7 is a pass at the exact heel: none is owed to the rounding of phi0.
+pub seventh-is-earned : (R : Reading) → Limits R → weighed R ≡ got tt → passes7 (loaded R) ≡ true → (q : ℕ) → 0 < q → PassesAt q (loaded R)
+seventh-is-earned R l w v q some = heel.seventh q some (loaded R) (upright (loaded R) (fair R l w)) v
 
 -- ---- the limits of criteria 1 to 3
 -- For every value of pi from 3.1415926 on they are at least 0.055, 0.03 and 0.09 m·rad.
