@@ -2,8 +2,8 @@
 //! and the best text that passes by it.
 
 use super::rounding::choices;
-use super::show::angles;
 use super::weather::{Verdicts, Weather};
+use super::words::angles;
 use crate::criteria::{Judgement, FAIL, NOT_JUDGED, PASS};
 
 /// A text on which document 01's verdict is better than the exact one.
@@ -96,7 +96,7 @@ impl Line {
 
     pub fn eighth(&mut self, used: &Used, exact: &Verdicts) {
         let net = used.judged.figures[10];
-        let figure = figure(exact);
+        let figure = exact.figure();
         if let (Weather::Judged(_), Weather::Judged(gust)) =
             (&used.verdicts.weather, &exact.weather)
         {
@@ -137,14 +137,6 @@ fn least(one: Option<i128>, other: i128) -> Option<i128> {
 /// All that is judged passes.
 fn sound(judged: &Judgement) -> bool {
     judged.verdicts.iter().all(|&verdict| verdict != FAIL)
-}
-
-/// The net rounded down, or 0 where there is none.
-pub fn figure(verdicts: &Verdicts) -> i128 {
-    match &verdicts.weather {
-        Weather::Judged(gust) => gust.net.1.floor(),
-        _ => 0,
-    }
 }
 
 fn both_angles(used: &Verdicts, exact: &Verdicts) -> String {

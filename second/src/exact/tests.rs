@@ -7,9 +7,8 @@ use std::path::PathBuf;
 use super::fraction::Fraction;
 use super::rounding::{choices, Kept};
 use super::search::Search;
-use super::show::word;
-use super::tally::figure;
 use super::weather::{Verdicts, Weather};
+use super::words::word;
 use crate::book::Document;
 use crate::corpus::Corpus;
 use crate::criteria::{judge_document, AREA_30_TO_40, AREA_TO_30, AREA_TO_40};
@@ -160,7 +159,7 @@ fn head(text: &str, name: &str, criterion: &str) -> (String, [i128; 2]) {
         (exact.fifth(), exact.peak)
     } else {
         let verdict = exact.eighth().expect("both ends agree");
-        (verdict, figure(&exact))
+        (verdict, exact.figure())
     };
     let figures = [used.figures[slot], value];
     let words = [used.verdicts[place], verdict].map(word);

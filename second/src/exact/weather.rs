@@ -60,6 +60,14 @@ impl Verdicts {
             Weather::Judged(_) => None,
         }
     }
+
+    /// The net rounded down, or 0 where there is none.
+    pub fn figure(&self) -> i128 {
+        match &self.weather {
+            Weather::Judged(gust) => gust.net.1.floor(),
+            _ => 0,
+        }
+    }
 }
 
 fn weather(document: &Document, hull: &Hull, levers: &Levers, kept: Kept) -> Weather {
