@@ -23,6 +23,8 @@ pub struct Example {
 pub struct Line {
     /// Texts with another figure once the value is exact.
     pub moved: u64,
+    /// Texts with a lower figure once the value is exact.
+    pub lower: u64,
     /// Passes that the exact value makes a fail.
     pub owed: u64,
     /// Texts that are not judged where the exact value makes a fail.
@@ -43,6 +45,8 @@ pub struct Line {
 pub struct Tally {
     pub name: &'static str,
     pub tried: u64,
+    /// Those that have the figure.
+    pub figured: u64,
     pub near: u64,
     pub lines: Vec<Line>,
 }
@@ -52,6 +56,7 @@ impl Tally {
         Tally {
             name,
             tried: 0,
+            figured: 0,
             near: 0,
             lines: vec![Line::default(); choices().len()],
         }
@@ -75,6 +80,7 @@ impl Line {
     pub fn fifth(&mut self, used: &Used, exact: &Verdicts) {
         let (of_used, of_exact) = (used.judged.figures[7], exact.peak);
         self.moved += u64::from(of_used != of_exact);
+        self.lower += u64::from(of_exact < of_used);
         self.gain = self.gain.max(Some(of_used - of_exact));
         if used.judged.verdicts[4] != PASS {
             return;
@@ -101,6 +107,7 @@ impl Line {
             (&used.verdicts.weather, &exact.weather)
         {
             self.moved += u64::from(gust.net.0.floor() != net || !gust.net.0.is_whole());
+            self.lower += u64::from(gust.net.1.floor() < net);
             self.gain = self.gain.max(Some(net - gust.net.0.floor()));
         }
         let rank = (sound(used.judged), -figure);
