@@ -35,11 +35,15 @@ impl Verdicts {
     /// None where the mass is off the rows.
     pub fn of(document: &Document, kept: Kept) -> Option<Verdicts> {
         let hull = Hull::of(document, kept)?;
-        let levers = Levers::of(&hull);
-        Some(Verdicts {
+        Some(Verdicts::with(document, &hull, &Levers::of(&hull), kept))
+    }
+
+    /// With the wind and the roll of this hull, and these levers.
+    pub fn with(document: &Document, hull: &Hull, levers: &Levers, kept: Kept) -> Verdicts {
+        Verdicts {
             peak: levers.peak(document.condition.weather.flooding),
-            weather: weather(document, &hull, &levers, kept),
-        })
+            weather: weather(document, hull, levers, kept),
+        }
     }
 
     pub fn fifth(&self) -> u8 {
