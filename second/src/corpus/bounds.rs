@@ -1,10 +1,10 @@
 //! Each field of each block at its limits and one beyond them, wherever the
 //! field's bytes can hold that, and at the most its bytes can hold.
 
+use super::cases::Cases;
 use super::dice::Dice;
 use super::draft::{item, nested, tank, Draft};
 use super::vessel::{self, Vessel};
-use super::Cases;
 use crate::layout::{fields, Field, A1, A2, C1, C2, C3};
 
 pub fn add(cases: &mut Cases) {

@@ -1,10 +1,10 @@
 //! Refusal 1: a small text cut at every byte, and characters, line ends and
 //! empty lines that no line may have.
 
+use super::cases::Cases;
 use super::dice::Dice;
 use super::draft::{item, nested};
 use super::vessel;
-use super::Cases;
 
 /// The characters of the small text, which has always the same shape.
 pub const SMALL: usize = 244;

@@ -1,9 +1,9 @@
 //! Criteria 1 to 6 exactly at their limits and one beside them.
 
+use super::cases::Cases;
 use super::dice::Dice;
 use super::solve::{area, lever, Search};
 use super::vessel::{self, Vessel};
-use super::Cases;
 use crate::criteria::{AREA_30_TO_40, AREA_TO_30, AREA_TO_40, GREATEST_LEVER};
 use crate::curve::SINES;
 

@@ -1,10 +1,10 @@
 //! Refusals 2 to 6 at every kind of place, each alone, with a second fault
 //! before it and with a second fault behind it.
 
+use super::cases::Cases;
 use super::dice::Dice;
 use super::draft::{item, nested, tank, Draft};
 use super::vessel;
-use super::Cases;
 use crate::layout::{fields, A1, A2, A3, C1, C4};
 
 #[derive(Clone, Copy, Debug, PartialEq)]

@@ -2,6 +2,7 @@
 //! A text depends on the seed and its own number only.
 
 mod bounds;
+mod cases;
 mod chance;
 mod characters;
 pub mod dice;
@@ -20,41 +21,8 @@ mod winds;
 #[cfg(test)]
 mod tests;
 
+use cases::{Case, Cases};
 use dice::Dice;
-
-type Make = Box<dyn Fn(&mut Dice) -> Vec<u8>>;
-
-/// A systematic case: its name, how its text is made, and whether the text
-/// is a long one that a small corpus goes without.
-pub struct Case {
-    name: String,
-    make: Make,
-    long: bool,
-}
-
-/// The list that each part of the corpus adds its cases to.
-#[derive(Default)]
-pub struct Cases {
-    list: Vec<Case>,
-}
-
-impl Cases {
-    fn add(&mut self, name: impl Into<String>, make: impl Fn(&mut Dice) -> Vec<u8> + 'static) {
-        self.list.push(Case {
-            name: name.into(),
-            make: Box::new(make),
-            long: false,
-        });
-    }
-
-    fn add_long(&mut self, name: impl Into<String>, make: impl Fn(&mut Dice) -> Vec<u8> + 'static) {
-        self.list.push(Case {
-            name: name.into(),
-            make: Box::new(make),
-            long: true,
-        });
-    }
-}
 
 pub struct Corpus {
     seed: u64,

@@ -1,10 +1,10 @@
 //! Frames in every order: missing, doubled, misplaced, and behind A3. Each
 //! letter of a case's word stands for a frame.
 
+use super::cases::Cases;
 use super::dice::Dice;
 use super::draft::{self, group, item, line, Block};
 use super::vessel;
-use super::Cases;
 
 /// S ship, R row, C condition; lower case s, r, c the same with its length
 /// one too long, and x, y, z with one byte left behind it; I, G, W, D, O

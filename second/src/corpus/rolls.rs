@@ -1,9 +1,9 @@
 //! Criterion 8 by its hull: each reason for not judging it alone and at its
 //! edge, and each point of each table of the roll, beside it and between.
 
+use super::cases::Cases;
 use super::dice::Dice;
 use super::vessel::{self, Vessel};
-use super::Cases;
 use crate::book::Row;
 use crate::line::Point;
 use crate::roll::{keel_index, period, K, S, X1, X2};

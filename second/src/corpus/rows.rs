@@ -1,10 +1,10 @@
 //! Where the mass stands among the rows, rows that rise and fall, and KG at
 //! its highest by free surface.
 
+use super::cases::Cases;
 use super::dice::Dice;
 use super::draft::{group, item, tank};
 use super::vessel::{self, level, Vessel};
-use super::Cases;
 
 pub fn add(cases: &mut Cases) {
     for count in [2, 3, 5] {

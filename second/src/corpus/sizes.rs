@@ -1,12 +1,12 @@
 //! The sizes of the text: rows, entries, depths, the length of A3, and the
 //! characters of the whole, each at its limit and one beyond.
 
+use super::cases::Cases;
 use super::dice::Dice;
 use super::draft::{group, item, line, nested, tank, Block, Draft};
 use super::faults::{apply, Fault};
 use super::load::{grouped, spread};
 use super::vessel::{self, Vessel};
-use super::Cases;
 
 pub fn add(cases: &mut Cases) {
     for count in [2, 3, 39, 40, 41] {

@@ -2,11 +2,11 @@
 //! exactly, angles that are none, every kind of flooding angle, and a net
 //! area of 0 with its neighbours.
 
+use super::cases::Cases;
 use super::dice::Dice;
 use super::edges::crest;
 use super::solve::{area, figures, fit, lever, sine_curve, sine_sum};
 use super::vessel::{self, Vessel};
-use super::Cases;
 use crate::criteria::{Gust, Wind};
 use crate::curve::{Curve, SINES, Y_PER_MILLIMETRE};
 use crate::line::up;

@@ -14,6 +14,7 @@ mod show;
 mod tally;
 mod tune;
 mod weather;
+mod words;
 
 #[cfg(test)]
 mod tests;

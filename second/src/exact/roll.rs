@@ -1,7 +1,7 @@
 //! The roll to windward with each value exact or rounded. Two values are
 //! square roots, the period and the roll itself. Where one of them is kept
-//! exact it is held between two fractions that are a thousand-millionth
-//! apart, and both ends are carried on to the verdict.
+//! exact it is held between two fractions that are 10^-15 apart, and both ends
+//! are carried on to the verdict.
 
 use super::fraction::Fraction;
 use super::hull::Hull;
@@ -10,7 +10,7 @@ use crate::book::Document;
 use crate::line::{root_down, root_up, Point};
 use crate::roll::{K, K_OF_SHARP_BILGE, LONGEST_PERIOD, S, X1, X2};
 
-const PARTS: i128 = 1_000_000_000;
+const PARTS: i128 = 10_i128.pow(15);
 
 /// A number that is no less than the first and no greater than the second.
 #[derive(Clone, Debug)]

@@ -7,10 +7,10 @@ use super::draw::text;
 use super::hull::Hull;
 use super::levers::Levers;
 use super::rounding::{choices, Kept};
-use super::show::word;
 use super::tally::{Example, Line, Tally, Used};
 use super::tune;
 use super::weather::{Verdicts, Weather};
+use super::words::word;
 use crate::book::Document;
 use crate::corpus::dice::Dice;
 use crate::criteria::{judge_document, PASS, WEATHER_END};
@@ -62,9 +62,11 @@ impl Search {
         };
         let tally = &mut self.eighth[kind(document, &verdicts)];
         tally.tried += 1;
+        tally.figured += u64::from(matches!(verdicts.weather, Weather::Judged(_)));
         let near = judged.verdicts[7] == PASS && judged.figures[10] < NEAR;
         tally.near += u64::from(near);
         self.fifth.tried += 1;
+        self.fifth.figured += 1;
         self.fifth.near += u64::from(judged.verdicts[4] == PASS && judged.figures[7] < 300);
         for (at, (_, kept)) in choices().into_iter().enumerate() {
             if let Some(exact) = Verdicts::of(document, kept) {
@@ -107,6 +109,7 @@ impl Search {
 
 const COLUMNS: &str = "\
 moved: texts with another figure once the value is exact
+lower: those of them with a lower one
 owed: passes that are a fail with the exact value
 silent: not judged, and a fail with the exact value
 beyond: passes that are not judged with the exact value
@@ -117,9 +120,11 @@ least: the least exact figure where the one used passes
 
 /// Sagging curves lie below -lw2 within the reach of the windward side; those
 /// of two humps fall from a top above 0 and rise again before min(E, 500).
-const KINDS: [&str; 4] = ["ordinary", "sagging", "two humps", "sagging, two humps"];
+pub const KINDS: [&str; 4] = ["ordinary", "sagging", "two humps", "sagging, two humps"];
 
-fn kind(document: &Document, verdicts: &Verdicts) -> usize {
+/// Where criterion 8 has no start the windward side has no reach, and the
+/// curve does not sag.
+pub fn kind(document: &Document, verdicts: &Verdicts) -> usize {
     let Some(hull) = Hull::of(document, Kept::NONE) else {
         return 0;
     };
@@ -137,8 +142,8 @@ fn kind(document: &Document, verdicts: &Verdicts) -> usize {
 fn write_tally(out: &mut impl Write, criterion: usize, tally: &Tally) -> io::Result<()> {
     writeln!(
         out,
-        "criterion {criterion}, {}: {} texts, {} within reach of the edge",
-        tally.name, tally.tried, tally.near
+        "criterion {criterion}, {}: {} texts, {} with a figure, {} within reach of the edge",
+        tally.name, tally.tried, tally.figured, tally.near
     )?;
     for (line, (name, _)) in tally.lines.iter().zip(choices()) {
         if criterion == 8 || ["KG", "KN", "all"].contains(&name) {
@@ -152,8 +157,10 @@ fn write_line(out: &mut impl Write, name: &str, line: &Line) -> io::Result<()> {
     let shown = |value: Option<i128>| value.map_or("-".to_string(), |value| value.to_string());
     writeln!(
         out,
-        "  {name:6} moved {:6} owed {:6} silent {:5} beyond {:5} open {} gain {:>14} least {}",
+        "  {name:6} moved {:6} lower {:5} owed {:6} silent {:5} beyond {:5} open {} \
+         gain {:>14} least {}",
         line.moved,
+        line.lower,
         line.owed,
         line.silent,
         line.beyond,

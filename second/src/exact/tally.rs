@@ -2,8 +2,8 @@
 //! and the best text that passes by it.
 
 use super::rounding::choices;
-use super::show::angles;
 use super::weather::{Verdicts, Weather};
+use super::words::angles;
 use crate::criteria::{Judgement, FAIL, NOT_JUDGED, PASS};
 
 /// A text on which document 01's verdict is better than the exact one.
@@ -23,6 +23,8 @@ pub struct Example {
 pub struct Line {
     /// Texts with another figure once the value is exact.
     pub moved: u64,
+    /// Texts with a lower figure once the value is exact.
+    pub lower: u64,
     /// Passes that the exact value makes a fail.
     pub owed: u64,
     /// Texts that are not judged where the exact value makes a fail.
@@ -43,6 +45,8 @@ pub struct Line {
 pub struct Tally {
     pub name: &'static str,
     pub tried: u64,
+    /// Those that have the figure.
+    pub figured: u64,
     pub near: u64,
     pub lines: Vec<Line>,
 }
@@ -52,6 +56,7 @@ impl Tally {
         Tally {
             name,
             tried: 0,
+            figured: 0,
             near: 0,
             lines: vec![Line::default(); choices().len()],
         }
@@ -75,6 +80,7 @@ impl Line {
     pub fn fifth(&mut self, used: &Used, exact: &Verdicts) {
         let (of_used, of_exact) = (used.judged.figures[7], exact.peak);
         self.moved += u64::from(of_used != of_exact);
+        self.lower += u64::from(of_exact < of_used);
         self.gain = self.gain.max(Some(of_used - of_exact));
         if used.judged.verdicts[4] != PASS {
             return;
@@ -96,11 +102,12 @@ impl Line {
 
     pub fn eighth(&mut self, used: &Used, exact: &Verdicts) {
         let net = used.judged.figures[10];
-        let figure = figure(exact);
+        let figure = exact.figure();
         if let (Weather::Judged(_), Weather::Judged(gust)) =
             (&used.verdicts.weather, &exact.weather)
         {
             self.moved += u64::from(gust.net.0.floor() != net || !gust.net.0.is_whole());
+            self.lower += u64::from(gust.net.1.floor() < net);
             self.gain = self.gain.max(Some(net - gust.net.0.floor()));
         }
         let rank = (sound(used.judged), -figure);
@@ -137,14 +144,6 @@ fn least(one: Option<i128>, other: i128) -> Option<i128> {
 /// All that is judged passes.
 fn sound(judged: &Judgement) -> bool {
     judged.verdicts.iter().all(|&verdict| verdict != FAIL)
-}
-
-/// The net rounded down, or 0 where there is none.
-pub fn figure(verdicts: &Verdicts) -> i128 {
-    match &verdicts.weather {
-        Weather::Judged(gust) => gust.net.1.floor(),
-        _ => 0,
-    }
 }
 
 fn both_angles(used: &Verdicts, exact: &Verdicts) -> String {

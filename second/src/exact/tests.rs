@@ -5,15 +5,16 @@
 use std::path::PathBuf;
 
 use super::fraction::Fraction;
-use super::rounding::{choices, Kept};
-use super::search::Search;
-use super::show::word;
-use super::tally::figure;
+use super::hull::Hull;
+use super::levers::Levers;
+use super::rounding::{choices, Kept, Rounding};
+use super::search::{kind, Search, KINDS};
 use super::weather::{Verdicts, Weather};
+use super::words::{angles, word};
 use crate::book::Document;
 use crate::corpus::Corpus;
-use crate::criteria::{judge_document, AREA_30_TO_40, AREA_TO_30, AREA_TO_40};
-use crate::curve::SINES;
+use crate::criteria::{judge_document, AREA_30_TO_40, AREA_TO_30, AREA_TO_40, PASS};
+use crate::curve::{SINES, Y_PER_MILLIMETRE};
 use crate::parse::document;
 use crate::text::lines;
 
@@ -57,7 +58,7 @@ fn assert_as_used(document: &Document, exact: &Verdicts) {
 fn with_no_value_kept_the_verdicts_are_document_01s() {
     let corpus = Corpus::new(7, true);
     let mut judged = 0;
-    for number in 1_391..2_800 {
+    for number in 0..2_800 {
         let text = corpus.text(number);
         let Ok(document) = lines(&text).and_then(|lines| document(&lines)) else {
             continue;
@@ -68,7 +69,7 @@ fn with_no_value_kept_the_verdicts_are_document_01s() {
             judged += 1;
         }
     }
-    assert!(judged > 500);
+    assert!(judged > 1_300);
 }
 
 /// Every value of this text comes out whole, the period of 5.64 s, the roll
@@ -116,9 +117,15 @@ fn file(path: [&str; 2]) -> String {
     std::fs::read_to_string(&path).unwrap_or_else(|error| panic!("{path:?}: {error}"))
 }
 
-/// An example as it is stored: its head of ten words, a note, and the text.
+fn page() -> String {
+    file(["docs", "ROUNDINGS.md"])
+}
+
+/// An example as it is stored: its head of ten words, the number of its text
+/// on the page, and the text.
 struct Stored {
     head: Vec<String>,
+    number: String,
     text: String,
 }
 
@@ -127,11 +134,15 @@ fn stored() -> Vec<Stored> {
     let parts = whole.split("\n\n").filter(|part| !part.trim().is_empty());
     let example = |part: &str| {
         let mut lines = part.trim().lines();
-        let head = lines.next().unwrap_or_default();
-        let text: String = lines.skip(1).map(|line| format!("{line}\n")).collect();
+        let mut words = || -> Vec<String> {
+            let line = lines.next().unwrap_or_default();
+            line.split(' ').map(str::to_string).collect()
+        };
+        let (head, note) = (words(), words());
         Stored {
-            head: head.split(' ').map(str::to_string).collect(),
-            text,
+            head,
+            number: note[2].clone(),
+            text: lines.map(|line| format!("{line}\n")).collect(),
         }
     };
     parts.map(example).collect()
@@ -160,7 +171,7 @@ fn head(text: &str, name: &str, criterion: &str) -> (String, [i128; 2]) {
         (exact.fifth(), exact.peak)
     } else {
         let verdict = exact.eighth().expect("both ends agree");
-        (verdict, figure(&exact))
+        (verdict, exact.figure())
     };
     let figures = [used.figures[slot], value];
     let words = [used.verdicts[place], verdict].map(word);
@@ -171,12 +182,53 @@ fn head(text: &str, name: &str, criterion: &str) -> (String, [i128; 2]) {
     (head, figures)
 }
 
+/// How the row of an example begins on the page.
+fn row(example: &Stored, figures: [i128; 2]) -> String {
+    let [used, exact] = figures.map(figured);
+    let name = on_the_page(&example.head[1]);
+    let start = format!("| {name} | {} |", example.number);
+    match (example.head[3].as_str(), example.head[5].as_str()) {
+        ("5", _) => format!("{start} {used}, pass | {exact}, fail |"),
+        (_, "unjudged") => format!("{start} not judged, {used} | fail, {exact} |"),
+        _ => format!("{start} {used} | {exact} |"),
+    }
+}
+
+fn on_the_page(name: &str) -> &str {
+    if name == "angles" {
+        "start and e"
+    } else {
+        name
+    }
+}
+
+/// phi1, start and e as used and exact, as the page writes them where both
+/// are judged.
+fn both_angles(text: &str, name: &str) -> Option<String> {
+    let document = read(text);
+    let [used, exact] = [Kept::NONE, kept(name)].map(|kept| {
+        let verdicts = Verdicts::of(&document, kept).expect("on its rows");
+        angles(&verdicts).replace(".00", "")
+    });
+    let used: Vec<&str> = used.split(' ').collect();
+    let exact: Vec<&str> = exact.split(' ').collect();
+    let ([phi1, start, end], [phi1_exact, start_exact, end_exact]) = (&used[..], &exact[..]) else {
+        return None;
+    };
+    Some(format!(
+        "phi1 {phi1} and {phi1_exact}, start {start} and {start_exact}, e {end} and {end_exact}"
+    ))
+}
+
 #[test]
 fn the_stored_examples_are_what_is_said_of_them() {
-    let page = file(["docs", "ROUNDINGS.md"]);
+    let page = page();
     let examples = stored();
     assert!(examples.len() > 20);
-    for Stored { head: said, text } in &examples {
+    for example in &examples {
+        let Stored {
+            head: said, text, ..
+        } = example;
         let (found, figures) = head(text, &said[1], &said[3]);
         assert_eq!(found, said.join(" "));
         assert!(said[8] == "fail" && said[5] != "fail");
@@ -185,15 +237,160 @@ fn the_stored_examples_are_what_is_said_of_them() {
             page.contains(&printed),
             "the page lacks the text of {found}"
         );
-        for figure in figures {
-            let figure = figured(figure);
-            assert!(page.contains(&figure), "the page lacks {figure} of {found}");
-        }
+        let row = row(example, figures);
+        let line = page.lines().find(|line| line.starts_with(&row));
+        let line = line.unwrap_or_else(|| panic!("the page lacks {row}"));
+        let angles = both_angles(text, &said[1]).filter(|_| said[3] == "8");
+        assert!(
+            angles.is_none_or(|angles| line.contains(&angles)),
+            "the angles of {row}"
+        );
     }
     let printed = page.lines().filter(|line| line.starts_with("    A1000D"));
     for line in printed {
         let known = |example: &Stored| example.text.starts_with(line.trim());
         assert!(examples.iter().any(known), "{line} is not stored");
+    }
+}
+
+/// The text of this number on the page.
+fn numbered(number: &str) -> Document {
+    let found = stored()
+        .into_iter()
+        .find(|example| example.number == number);
+    read(&found.unwrap_or_else(|| panic!("no text {number}")).text)
+}
+
+/// Which criteria pass, as the page says it.
+fn passes(verdicts: [u8; 8]) -> String {
+    let passed: Vec<String> = (1..=8)
+        .filter(|&number| verdicts[number - 1] == PASS)
+        .map(|number: usize| number.to_string())
+        .collect();
+    match passed.join(", ").as_str() {
+        "1, 2, 3, 4, 5, 6, 7, 8" => "passes all eight".to_string(),
+        "1, 2, 3, 4, 5, 6, 7" => "passes 1 to 7".to_string(),
+        other => format!("passes {other}"),
+    }
+}
+
+/// Above each text stand its kind of curve, the roundings that it is an
+/// example for, and the criteria that pass.
+#[test]
+fn the_headings_say_what_the_texts_are() {
+    let page = page();
+    let headings = page.lines().filter_map(|line| {
+        let heading = line.strip_prefix("Text ")?.strip_suffix("):")?;
+        heading.split_once(" (")
+    });
+    let mut found = 0;
+    for (number, said) in headings {
+        let document = numbered(number);
+        let used = judge_document(&document).expect("it is judged");
+        let verdicts = Verdicts::of(&document, Kept::NONE).expect("on its rows");
+        let unjudged = matches!(verdicts.weather, Weather::NotJudged);
+        let names: Vec<String> = stored()
+            .iter()
+            .filter(|example| example.number == number)
+            .map(|example| on_the_page(&example.head[1]).to_string())
+            .collect();
+        let expected = format!(
+            "{}{}; {}; {}",
+            KINDS[kind(&document, &verdicts)],
+            if unjudged { ", not judged" } else { "" },
+            names.join(", "),
+            passes(used.verdicts)
+        );
+        assert_eq!(said, expected, "text {number}");
+        found += 1;
+    }
+    assert_eq!(found, 13);
+}
+
+/// The exact values that the page quotes, rounded down to hundredths.
+#[test]
+fn the_exact_values_are_quoted() {
+    let page = page();
+    let quoted = |number: &str, name: &str, of: &dyn Fn(&Hull) -> Fraction| {
+        let document = numbered(number);
+        let [used, exact] = [Kept::NONE, kept(name)]
+            .map(|kept| of(&Hull::of(&document, kept).expect("on its rows")));
+        let exact = exact.times(100).floor();
+        let (whole, part) = (figured(exact / 100), exact % 100);
+        let said = format!("{name} {whole}.{part:02} used as {}", figured(used.floor()));
+        assert!(page.contains(&said), "the page lacks {said}");
+    };
+    quoted("1", "KN", &|hull| hull.kn[4].clone());
+    quoted("2", "KG", &|hull| hull.kg.clone());
+    quoted("2", "KM", &|hull| hull.km.clone());
+    quoted("2", "lw1", &|hull| hull.lw1.clone());
+    quoted("3", "d", &|hull| hull.draught.clone());
+    quoted("5", "lw2", &|hull| hull.lw2.clone());
+    quoted("11", "KG", &|hull| hull.kg.clone());
+    quoted("12", "KM", &|hull| hull.km.clone());
+    quoted("13", "d", &|hull| hull.draught.clone());
+    let document = numbered("5");
+    let hull = |kept| Hull::of(&document, kept).expect("on its rows");
+    let hundredths = |value: &Fraction| value.times(100).floor();
+    let hump = Levers::of(&hull(Kept::NONE)).y(&Fraction::whole(50));
+    assert_eq!(hundredths(&hump.part(Y_PER_MILLIMETRE)), 16_377);
+    let bare = hull(Kept::ALL);
+    assert_eq!([&bare.lw1, &bare.lw2].map(hundredths), [10_899, 16_349]);
+    for said in ["163.77 mm", "lw1 is 108.99 and lw2 163.49"] {
+        assert!(page.contains(said), "the page lacks {said}");
+    }
+}
+
+/// The steady heels of text 2, and its nets with KG exact in the levers or in
+/// the roll alone, and with lw1 exact and lw2 kept.
+#[test]
+fn what_is_kept_and_what_is_worked_out_anew() {
+    let page = page();
+    let document = numbered("2");
+    let heel = |kept: Kept| {
+        let verdicts = Verdicts::of(&document, kept.with(Rounding::Start));
+        let Weather::Judged(gust) = verdicts.expect("on its rows").weather else {
+            panic!("it is judged");
+        };
+        (&gust.start.0 + &gust.phi1.1).times(100).floor()
+    };
+    assert_eq!(heel(Kept::NONE), 10_803);
+    for (name, met) in [("KG", 10_799), ("KN", 10_797), ("lw1", 10_779)] {
+        assert_eq!(heel(kept(name)), met);
+        let said = format!("(108.03 and {}.{:02})", met / 100, met % 100);
+        assert!(page.contains(&said), "the page lacks {said}");
+    }
+    let hull = |kept| Hull::of(&document, kept).expect("on its rows");
+    let net = |hull: &Hull, levers: &Hull| {
+        Verdicts::with(&document, hull, &Levers::of(levers), Kept::NONE).figure()
+    };
+    let (used, exact) = (hull(Kept::NONE), hull(kept("KG")));
+    assert_eq!(net(&exact, &exact), -16_323_309_240);
+    assert_eq!(net(&used, &exact), -7_229_297_859);
+    assert_eq!(net(&exact, &used), -8_896_628_000);
+    let mut exact = hull(kept("lw1"));
+    assert!(exact.lw2 == Fraction::whole(539));
+    assert_eq!(net(&exact, &exact), -2_796_628_000);
+    exact.lw2 = used.lw2.clone();
+    assert!(exact.lw2 == Fraction::whole(540));
+    assert_eq!(net(&exact, &exact), -8_896_628_000);
+    for figure in [-7_229_297_859, -8_896_628_000] {
+        assert!(page.contains(&figured(figure)), "the page lacks {figure}");
+    }
+}
+
+/// Which of the texts that are judged pass criterion 8 with all values exact,
+/// and what KN has to do with it in text 4.
+#[test]
+fn with_all_values_exact() {
+    let numbers = ["2", "3", "4", "5", "6", "7", "8", "9", "10"];
+    let passed = |number: &&str| exact(&numbered(number), "all").eighth() == Some(PASS);
+    let passed: Vec<&str> = numbers.into_iter().filter(passed).collect();
+    assert_eq!(passed, ["2", "3", "6", "8", "9", "10"]);
+    let page = page();
+    for (number, name) in [("2", "all"), ("3", "all"), ("4", "KN")] {
+        let figure = figured(exact(&numbered(number), name).figure());
+        assert!(page.contains(&figure), "the page lacks {figure}");
     }
 }
 

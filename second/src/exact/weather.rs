@@ -35,11 +35,15 @@ impl Verdicts {
     /// None where the mass is off the rows.
     pub fn of(document: &Document, kept: Kept) -> Option<Verdicts> {
         let hull = Hull::of(document, kept)?;
-        let levers = Levers::of(&hull);
-        Some(Verdicts {
+        Some(Verdicts::with(document, &hull, &Levers::of(&hull), kept))
+    }
+
+    /// With the wind and the roll of this hull, and these levers.
+    pub fn with(document: &Document, hull: &Hull, levers: &Levers, kept: Kept) -> Verdicts {
+        Verdicts {
             peak: levers.peak(document.condition.weather.flooding),
-            weather: weather(document, &hull, &levers, kept),
-        })
+            weather: weather(document, hull, levers, kept),
+        }
     }
 
     pub fn fifth(&self) -> u8 {
@@ -58,6 +62,14 @@ impl Verdicts {
             Weather::Judged(gust) if !gust.net.0.is_negative() => Some(PASS),
             Weather::Judged(gust) if gust.net.1.is_negative() => Some(FAIL),
             Weather::Judged(_) => None,
+        }
+    }
+
+    /// The net rounded down, or 0 where there is none.
+    pub fn figure(&self) -> i128 {
+        match &self.weather {
+            Weather::Judged(gust) => gust.net.1.floor(),
+            _ => 0,
         }
     }
 }
