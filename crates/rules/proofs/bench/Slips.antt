@@ -24,8 +24,10 @@ slips =
     -- KN rounded up between rows: at W one above the first row's, it is the first row's still.
     ∷ judges (lines (ship ∷ row1 ∷ "A2002200186A001130119400000190030F04970620078A08FC0A220B050BA20C5C0CCD0D48" ∷ "A30018C1000C000009C40FA002BC01F400C8C2000600155CC10FA0" ∷ []))
     (broken ("D1006500000000000101010101010101" ∷ "0000000000155CC10000000000000FA000000000000001F4" ∷ "000000645737BC0000000042E46A1900000000A73BA1D500" ∷ "0000000059682F00000000000000012C000000000000002A" ∷ "00000000000000EF000000478E8D8F80" ∷ []))
+    -- 'Not beyond min(E, 500)': with E 600 the gust is withstood up to 500, as in P1.
+    ∷ judges (with "A30018C1000C000009C40FA002BC025800C8C2000600155CC00FA0") P1-output
     ∷ []
 
 pub slips-hold : All slips
 unfolding answered reportOf
-slips-hold = (refl, (refl, (refl, ((refl, refl), (refl, (refl, tt))))))
+slips-hold = (refl, (refl, (refl, ((refl, refl), (refl, (refl, (refl, tt)))))))

@@ -1,0 +1,98 @@
+-- The numbers of 'Loading and curve', 'The eight criteria' and 'Roll', restated from the page: each table as it is printed there, and each other number in a worked value that one more or one less would change.
+use mathlib.Core.Path.{_≡_, refl}
+use mathlib.Core.Bool.{Bool, true, false}
+use mathlib.Core.List.{List, [], _∷_, map}
+use Prim.Native.Nat.{ℕ, _*_, _/_, _^_}
+use lib.IntN.{ℤ, pos, negℤ}
+use lib.ListN.{length, getD, replicate}
+use Rattle.rules.specs.Rounding.{Point, point}
+use Rattle.rules.specs.Curve.{Loaded, sines, lever, leverZ, y, area}
+use Rattle.rules.specs.Criteria.{area1, area2, area3, greatestLever, angleOfGreatest, gm, lw1, lw2, units}
+use Rattle.rules.specs.Roll.{b, C, q, period, X1, X2, K, S, keelIndex, farthest, outsideRange, notJudged}
+use Rattle.rules.specs.Report.{judgement}
+use Rattle.rules.proofs.bench.Cases.{Case, gives, All}
+
+-- ---- the tables, in the page's own units: so many to one of the definitions'
+abbrev printed : ℕ → List (ℕ × ℕ) → List Point
+printed unit rows = map (λ r. point (unit * r .0) (r .1)) rows
+
+-- X1 by tenths of B/d, X2 by hundredths of CB, k by tenths of the keel index, s by seconds.
+pub tables-printed : (X1 ≡ printed 100 ((24, 1000) ∷ (25, 980) ∷ (26, 960) ∷ (27, 950) ∷ (28, 930) ∷ (29, 910) ∷ (30, 900) ∷ (31, 880) ∷ (32, 860) ∷ (34, 820) ∷ (35, 800) ∷ []))
+    × (X2 ≡ printed 10 ((45, 750) ∷ (50, 820) ∷ (55, 890) ∷ (60, 950) ∷ (65, 970) ∷ (70, 1000) ∷ []))
+    × (K ≡ printed 100 ((0, 1000) ∷ (10, 980) ∷ (15, 950) ∷ (20, 880) ∷ (25, 790) ∷ (30, 740) ∷ (35, 720) ∷ (40, 700) ∷ []))
+    × (S ≡ printed 100 ((6, 1000) ∷ (7, 980) ∷ (8, 930) ∷ (12, 650) ∷ (14, 530) ∷ (16, 440) ∷ (18, 380) ∷ (20, 350) ∷ []))
+tables-printed = (refl, refl, refl, refl)
+
+-- 'Sines in 1/100,000', by degrees.
+pub sines-printed : (length sines ≡ 13) × (map (λ d. getD sines (d / 5) 0) (0 ∷ 5 ∷ 10 ∷ 15 ∷ 20 ∷ 25 ∷ 30 ∷ 35 ∷ 40 ∷ 45 ∷ 50 ∷ 55 ∷ 60 ∷ [])
+    ≡ 0 ∷ 8_716 ∷ 17_365 ∷ 25_882 ∷ 34_202 ∷ 42_262 ∷ 50_000 ∷ 57_358 ∷ 64_279 ∷ 70_711 ∷ 76_604 ∷ 81_915 ∷ 86_603 ∷ [])
+sines-printed = (refl, refl)
+
+-- ---- worked values
+-- A ship of which only what is asked matters: L, B, d, KM, KG, the KN values and E.
+abbrev afloat : (L B d km kg : ℕ) → List ℕ → (flooding : ℕ) → Loaded
+afloat L B d km kg kn flooding = record {
+  ship = record { hullLength = L; breadth = B; keelArea = 0; bilge = 0 };
+  weather = record { windArea = 981; z = 100_000; cb = 700; flooding = flooding; deckEdge = 200 };
+  w = 5_040;
+  kg = kg;
+  draught = d;
+  km = km;
+  kn = kn;
+}
+
+abbrev curved : List ℕ → ℕ → Loaded
+curved kn flooding = afloat 0 1 1 0 0 kn flooding
+
+-- A lever of one metre from 5 degrees on; one that falls by 0.001 m each 5 degrees, from 13.
+abbrev flat : List ℕ
+flat = 0 ∷ replicate 12 1_000
+
+abbrev falling : List ℕ
+falling = 13 ∷ 12 ∷ 11 ∷ 10 ∷ 9 ∷ 8 ∷ 7 ∷ 6 ∷ 5 ∷ 4 ∷ 3 ∷ 2 ∷ 1 ∷ []
+
+abbrev pub page : List Case
+page =
+    -- 'g at a station = 100,000 x KN - KG x sine', y '50 times the straight-line value': a millimetre at 5 degrees is 5,000,000; a KG of one takes 50 sines; half way and one tenth past a station.
+    gives (lever (0 ∷ 1 ∷ []) 0 50 ∷ lever [] 1 50 ∷ lever (0 ∷ 2 ∷ []) 0 25 ∷ lever (0 ∷ 0 ∷ 3 ∷ []) 0 51 ∷ []) (pos 5_000_000 ∷ negℤ (pos 435_800) ∷ pos 5_000_000 ∷ pos 300_000 ∷ [])
+    -- 'y(-t) = -y(t).' 'Either becomes y units times 5,000,000.'
+    ∷ gives (leverZ (0 ∷ 1 ∷ []) 0 (negℤ (pos 50)) ∷ units 1 ∷ []) (negℤ (pos 5_000_000) ∷ pos 5_000_000 ∷ [])
+    -- 'One metre-degree is 10^11'; 'area .. 0 if q <= p'.
+    ∷ gives (area (y (curved flat 600)) (pos 50) (pos 60) ∷ area (y (curved flat 600)) (pos 60) (pos 50) ∷ []) (pos (10 ^ 11) ∷ pos 0 ∷ [])
+    -- Areas 0 to min(300, E), 300 to min(400, E), 0 to min(400, E), at E = 600, 399, 300 and 299.
+    ∷ gives (map (λ f. area1 (curved flat f)) (600 ∷ 399 ∷ 300 ∷ 299 ∷ [])) (pos 2_750_000_000_000 ∷ pos 2_750_000_000_000 ∷ pos 2_750_000_000_000 ∷ pos 2_740_000_000_000 ∷ [])
+    ∷ gives (map (λ f. area2 (curved flat f)) (600 ∷ 399 ∷ 300 ∷ 299 ∷ [])) (pos 1_000_000_000_000 ∷ pos 990_000_000_000 ∷ pos 0 ∷ pos 0 ∷ [])
+    ∷ gives (map (λ f. area3 (curved flat f)) (600 ∷ 399 ∷ 300 ∷ 299 ∷ [])) (pos 3_750_000_000_000 ∷ pos 3_740_000_000_000 ∷ pos 2_750_000_000_000 ∷ pos 2_740_000_000_000 ∷ [])
+    -- 'Greatest y from 300 to E .. If E < 300: .. figure 0.' 'The first t in 0..E with the greatest y.'
+    ∷ gives (map (λ f. greatestLever (curved falling f)) (600 ∷ 300 ∷ 299 ∷ [])) (pos 35_000_000 ∷ pos 35_000_000 ∷ pos 0 ∷ [])
+    ∷ gives (map (λ kn. pos (angleOfGreatest (curved kn 60))) (falling ∷ flat ∷ (0 ∷ 1 ∷ 2 ∷ []) ∷ [])) (pos 0 ∷ pos 50 ∷ pos 60 ∷ [])
+    -- 'GM = KM - KG', below zero too.
+    ∷ gives (gm (afloat 0 1 1 7 3 [] 0) ∷ gm (afloat 0 1 1 3 7 [] 0) ∷ []) (pos 4 ∷ negℤ (pos 4) ∷ [])
+    -- 'lw1 = 5040 x wind area x Z / (981 x W) .. lw2 = 3 lw1 / 2': of 981, 100,000 and 5,040.
+    ∷ gives (pos (lw1 (curved [] 0)) ∷ pos (lw2 (curved [] 0)) ∷ []) (pos 100_000 ∷ pos 150_000 ∷ [])
+    -- 'b = 1000 B/d, down. C = 373,000 + 23 b - (43 L/100, up)': B/d of 1/1000 at L 100 and 101.
+    ∷ gives (map (λ L. pos (C (afloat L 1 1_000 0 0 [] 0))) (100 ∷ 101 ∷ [])) (pos 372_980 ∷ pos 372_979 ∷ [])
+    ∷ gives (pos (b (afloat 0 10_001 10_000 0 0 [] 0)) ∷ []) (pos 1_000 ∷ [])
+    -- 'q = 2 C B / 10^6, down. Period n = greatest with n² GM <= 10 q²': with C 400,000 and 399,999, and a GM of 10, the period is q.
+    ∷ gives (map (λ L. pos (q (afloat L 2_500 2_000 0 0 [] 0))) (4_069 ∷ 4_071 ∷ [])) (pos 2_000 ∷ pos 1_999 ∷ [])
+    ∷ gives (pos (period (afloat 4_071 2_500 2_000 2_010 2_000 [] 0)) ∷ []) (pos 1_999 ∷ [])
+    -- 'The keel index .. 10^9 x area / (L B)': 100 m², 100 m and 10 m, and one over.
+    ∷ gives (pos (keelIndex (record { hullLength = 100_000; breadth = 10_000; keelArea = 10_000; bilge = 0 })) ∷ pos (keelIndex (record { hullLength = 100_001; breadth = 10_000; keelArea = 10_000; bilge = 0 })) ∷ []) (pos 10_000 ∷ pos 9_999 ∷ [])
+    -- 'min(E, 500).'
+    ∷ gives (map (λ f. pos (farthest (curved [] f))) (499 ∷ 500 ∷ 501 ∷ [])) (pos 499 ∷ pos 500 ∷ pos 500 ∷ [])
+    ∷ []
+
+pub page-holds : All page
+unfolding judgement
+page-holds = (refl, (refl, (refl, (refl, (refl, (refl, (refl, (refl, (refl, (refl, (refl, (refl, (refl, (refl, (refl, (refl, tt))))))))))))))))
+
+-- 'Not judged (2) if GM <= 0, 10 B >= 35 d, KG outside 7d/10..15d/10 (ends judged), or n >= 2000': each at its edge.
+pub range-printed : map (λ c. outsideRange c) (afloat 0 1 1_000 1_000 1_000 [] 0 ∷ afloat 0 1 1_000 1_001 1_000 [] 0 ∷ afloat 0 3_500 1_000 1_001 1_000 [] 0 ∷ afloat 0 3_499 1_000 1_001 1_000 [] 0
+    ∷ afloat 0 1 1_000 700 699 [] 0 ∷ afloat 0 1 1_000 701 700 [] 0 ∷ afloat 0 1 1_000 1_501 1_500 [] 0 ∷ afloat 0 1 1_000 1_502 1_501 [] 0 ∷ [])
+    ≡ true ∷ false ∷ true ∷ false ∷ true ∷ false ∷ false ∷ true ∷ []
+unfolding outsideRange
+range-printed = refl
+
+pub period-printed : (notJudged (afloat 4_069 2_500 2_000 2_010 2_000 [] 0) ≡ true) × (notJudged (afloat 4_071 2_500 2_000 2_010 2_000 [] 0) ≡ false)
+unfolding judgement
+period-printed = (refl, refl)
