@@ -1,6 +1,5 @@
 //! The second program's command line: judge one text, make a corpus or name
-//! its systematic cases, and answer a corpus with reports or with the places
-//! of its faults.
+//! its systematic cases, and answer a corpus with reports.
 
 mod book;
 mod corpus;
@@ -24,14 +23,11 @@ use std::io::{self, BufReader, BufWriter, ErrorKind, Read, Write};
 use std::process::ExitCode;
 
 use corpus::Corpus;
-use criteria::{judge, Judgement};
-use refusal::Refusal;
+use criteria::judge;
 
-const USAGE: &str = "usage: second judge | exact | answers | places | cases [--small] \
+const USAGE: &str = "usage: second judge | exact | answers | cases [--small] \
                      | corpus --seed S --count N [--small] \
                      | roundings --seed S --count N";
-
-type Answer = Result<Judgement, Refusal>;
 
 fn main() -> ExitCode {
     let arguments: Vec<String> = std::env::args().skip(1).collect();
@@ -39,8 +35,7 @@ fn main() -> ExitCode {
     let done = match words.as_slice() {
         ["judge"] => judge_one(),
         ["exact"] => show_one(),
-        ["answers"] => answer_all(report::report),
-        ["places"] => answer_all(report::place),
+        ["answers"] => answer_all(),
         ["cases"] => write_names(&Corpus::new(0, false)),
         ["cases", "--small"] => write_names(&Corpus::new(0, true)),
         ["corpus", options @ ..] => match corpus_asked(options) {
@@ -86,11 +81,11 @@ fn show_one() -> io::Result<()> {
     io::stdout().lock().write_all(written.as_bytes())
 }
 
-fn answer_all(written: fn(&Answer) -> String) -> io::Result<()> {
+fn answer_all() -> io::Result<()> {
     let mut input = BufReader::new(io::stdin().lock());
     let mut output = BufWriter::new(io::stdout().lock());
     while let Some(text) = stream::read_text(&mut input)? {
-        output.write_all(written(&judge(&text)).as_bytes())?;
+        output.write_all(report::report(&judge(&text)).as_bytes())?;
     }
     output.flush()
 }

@@ -37,20 +37,6 @@ fn frame(refusal: &Refusal, verdicts: &[u8; 8], figures: &[i128; 11]) -> String 
     frame
 }
 
-/// Number, line and offset of refusals 1 to 6; three zeros for all else.
-pub fn place(answer: &Result<Judgement, Refusal>) -> String {
-    match answer {
-        Err(Refusal {
-            number,
-            line,
-            offset,
-        }) if *number <= 6 => {
-            format!("{number} {line} {offset}\n")
-        }
-        _ => "0 0 0\n".to_string(),
-    }
-}
-
 #[cfg(test)]
 mod tests {
     use super::*;

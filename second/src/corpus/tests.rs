@@ -9,7 +9,7 @@ use super::Corpus;
 use crate::criteria::{judge, Judgement, FAIL, NOT_JUDGED, PASS};
 use crate::curve::Y_PER_MILLIMETRE;
 use crate::refusal::Refusal;
-use crate::report::{place, report};
+use crate::report::report;
 use crate::stream::write_text;
 use crate::text::MOST_CHARACTERS;
 
@@ -216,19 +216,14 @@ fn the_stored_corpus_is_what_is_made_today() {
     };
     let corpus = Corpus::new(STORED_SEED, true);
     assert!(STORED_COUNT as usize > corpus.cases.len());
-    let (mut texts, mut answers, mut places) = (Vec::new(), String::new(), String::new());
+    let (mut texts, mut answers) = (Vec::new(), String::new());
     for text in (0..STORED_COUNT).map(|number| corpus.text(number)) {
         assert!(write_text(&mut texts, &text).is_ok());
         answers.push_str(&report(&judge(&text)));
-        places.push_str(&place(&judge(&text)));
     }
     assert!(stored("stored.texts") == texts, "stored.texts differs");
     assert!(
         stored("stored.answers") == answers.into_bytes(),
         "stored.answers differs"
-    );
-    assert!(
-        stored("stored.places") == places.into_bytes(),
-        "stored.places differs"
     );
 }
