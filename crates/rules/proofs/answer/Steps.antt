@@ -48,16 +48,16 @@ report-judged j = refl
 module _ (t buffer : List ℕ) where
   pub number-short : length buffer < reportLength → number t buffer ≡ 9
   unfolding number
-  number-short h = ap (λ (b : Bool). elim b [ true ↦ 9 | false ↦ numberOf (answered t) ]) (lt-ltb (length buffer) reportLength h)
+  number-short h = rw (lt-ltb (length buffer) reportLength h, number)
 
   pub written-short : length buffer < reportLength → written t buffer ≡ buffer
   unfolding written
-  written-short h = ap (λ (b : Bool). elim b [ true ↦ buffer | false ↦ reportOf (answered t) ++ drop reportLength buffer ]) (lt-ltb (length buffer) reportLength h)
+  written-short h = rw (lt-ltb (length buffer) reportLength h, written)
 
   pub number-room : reportLength ≤ length buffer → number t buffer ≡ numberOf (answered t)
   unfolding number
-  number-room h = ap (λ (b : Bool). elim b [ true ↦ 9 | false ↦ numberOf (answered t) ]) (le-ltb (length buffer) reportLength h)
+  number-room h = rw (le-ltb (length buffer) reportLength h, number)
 
   pub written-room : reportLength ≤ length buffer → written t buffer ≡ reportOf (answered t) ++ drop reportLength buffer
   unfolding written
-  written-room h = ap (λ (b : Bool). elim b [ true ↦ buffer | false ↦ reportOf (answered t) ++ drop reportLength buffer ]) (le-ltb (length buffer) reportLength h)
+  written-room h = rw (le-ltb (length buffer) reportLength h, written)

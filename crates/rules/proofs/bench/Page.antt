@@ -1,4 +1,4 @@
--- The numbers of 'Loading and curve', 'The eight criteria' and 'Roll', restated from the page: each table as it is printed there, and each other number in a worked value that one more or one less would change.
+-- The numbers of the report, of 'Loading and curve', of 'The eight criteria' and of 'Roll', restated from the page: each table as it is printed there, and each other number in a worked value that one more or one less would change.
 use mathlib.Core.Path.{_≡_, refl}
 use mathlib.Core.Bool.{Bool, true, false}
 use mathlib.Core.List.{List, [], _∷_, map}
@@ -6,10 +6,11 @@ use Prim.Native.Nat.{ℕ, _*_, _/_, _^_}
 use lib.IntN.{ℤ, pos, negℤ}
 use lib.ListN.{length, getD, replicate}
 use Rattle.rules.specs.Rounding.{Point, point}
+use Rattle.rules.specs.Text.{LF, digit}
 use Rattle.rules.specs.Curve.{Loaded, sines, lever, leverZ, y, area}
 use Rattle.rules.specs.Criteria.{area1, area2, area3, greatestLever, angleOfGreatest, gm, lw1, lw2, units}
 use Rattle.rules.specs.Roll.{b, C, q, period, X1, X2, K, S, keelIndex, farthest, outsideRange, notJudged}
-use Rattle.rules.specs.Report.{judgement}
+use Rattle.rules.specs.Report.{fail, pass, unjudged, void, verdictNumber, judgement, reportTag, reportLength}
 use Rattle.rules.proofs.bench.Cases.{Case, gives, All}
 
 -- ---- the tables, in the page's own units: so many to one of the definitions'
@@ -27,6 +28,11 @@ tables-printed = (refl, refl, refl, refl)
 pub sines-printed : (length sines ≡ 13) × (map (λ d. getD sines (d / 5) 0) (0 ∷ 5 ∷ 10 ∷ 15 ∷ 20 ∷ 25 ∷ 30 ∷ 35 ∷ 40 ∷ 45 ∷ 50 ∷ 55 ∷ 60 ∷ [])
     ≡ 0 ∷ 8_716 ∷ 17_365 ∷ 25_882 ∷ 34_202 ∷ 42_262 ∷ 50_000 ∷ 57_358 ∷ 64_279 ∷ 70_711 ∷ 76_604 ∷ 81_915 ∷ 86_603 ∷ [])
 sines-printed = (refl, refl)
+
+-- LF and the digits as characters; '0 fail, 1 pass, 2 not judged, 3 refused'; the report's tag and its length in characters.
+pub report-printed : (LF ≡ 10) × (map digit (0 ∷ 9 ∷ 10 ∷ 15 ∷ []) ≡ 48 ∷ 57 ∷ 65 ∷ 70 ∷ []) × (map verdictNumber (fail ∷ pass ∷ unjudged ∷ void ∷ []) ≡ 0 ∷ 1 ∷ 2 ∷ 3 ∷ []) × (reportTag ≡ 0xD1) × (reportLength ≡ 209)
+unfolding digit
+report-printed = (refl, refl, refl, refl, refl)
 
 -- ---- worked values
 -- A ship of which only what is asked matters: L, B, d, KM, KG, the KN values and E.

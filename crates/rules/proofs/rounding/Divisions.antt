@@ -28,7 +28,7 @@ lw1-up c h = ceil-is (5040 * c .weather .windArea * c .weather .z) (981 * c .w) 
 
 -- 'lw2 = 3 lw1 / 2, rounded up': of the rounded lw1.
 pub lw2-up : (c : Loaded) → Ceiling (3 * lw1 c) 2 (lw2 c)
-unfolding lw2
+unfolding lw2 lw1
 lw2-up c = ceil-is (3 * lw1 c) 2 (omega arith)
 
 -- 'b = 1000 B/d, down.'
