@@ -24,6 +24,11 @@ use Rattle.rules.proofs.walk.BlockExits.{entries-short}
 use Rattle.rules.proofs.walk.FrameExits.{inside-short, ship-short, frame-short}
 
 -- ---- among entries
+-- No entries pass.
+pub none-pass : (d n : ℕ) → Passed d n end
+unfolding leaves depth Good
+none-pass d n = record { good = tt; deep = omega arith; many = omega arith }
+
 meets-some : {d n at o : ℕ} {s left : List ℕ} → Meets d n at s o left → 0 < length left → 0 < length s
 meets-some (behind F left P) h = let M = length-append (spell F) left in omega arith
 meets-some (nestedIn F body rest P g m) h = let M = length-append (spell F) (block groupTag body ++ rest) in let N = length-block groupTag body rest in omega arith
