@@ -1,5 +1,5 @@
 -- 'Blocks as they begin, first byte to last': which blocks the reading of a text comes to, said with no reader.
--- A block is met where all that stands before it keeps the layout and the limits. What stands behind it may be anything.
+-- A block is met where all that stands before it keeps the layout and the limits. What stands behind it may be anything. So with the first line that is none.
 use mathlib.Core.Path.{_≡_}
 use mathlib.Core.Logic.{_≢_}
 use mathlib.Core.Bool.{true}

@@ -65,7 +65,7 @@ pub data LineAt : List ℕ → ℕ → List ℕ → Type 0 where
   -- a later line: one of those behind the first line and its LF
   laterLine : {n : ℕ} {p : List ℕ} (q rest : List ℕ) → NoLF q → LineAt rest n p → LineAt (q ++ (LF ∷ rest)) (1 + n) p
 
--- `Placed t n l o`: a refusal n of the text t may name line l and offset o. There is no other refusal.
+-- `Placed t n l o`: where the text t is refused with n, line l and offset o may be named. Nothing else may. (9 is of the buffer, and not of the text.)
 pub data Placed (t : List ℕ) : ℕ → ℕ → ℕ → Type 0 where
   -- 1: 'over 12,000 characters (line 0)'
   tooLong : mostCharacters < length t → Placed t 1 0 0
@@ -73,7 +73,7 @@ pub data Placed (t : List ℕ) : ℕ → ℕ → ℕ → Type 0 where
   atLine : {l : ℕ} {p : List ℕ} → length t ≤ mostCharacters → LineAt t l p → Placed t 1 l 0
   -- 5: 'empty text'
   emptyText : t ≡ [] → Placed t 5 0 0
-  -- 2 to 6: a byte of one of the text's own lines, both of whose characters stand in that line
+  -- 2 to 6: a byte of one of the text's own lines; both its characters stand in that line
   atByte : {n l o : ℕ} {p : List ℕ} → 2 ≤ n → n ≤ 6 → length t ≤ mostCharacters → LineAt t l p → 2 * o + 1 < length p → Placed t n l o
   -- 7 and 8: no place
   unweighed : {n : ℕ} → 7 ≤ n → n ≤ 8 → Placed t n 0 0

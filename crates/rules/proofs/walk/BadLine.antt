@@ -100,7 +100,7 @@ Bad ln t n l o = (n ≡ 1) × (o ≡ 0) × (i : ℕ) × (ln + i ≡ l) × FirstN
 decode-bad : (ps : List (List ℕ)) (ln : ℕ) (p : List ℕ) → NoLF p → NoLFs ps → Refusal (Bad ln (join p ps)) (decode ln p ps)
 unfolding decode join NoLFs text Lines
 decode-bad [] ln [] N M = given
-decode-bad [] ln (c ∷ p) N M = plain 1 ln 0 (refl, refl, 0, omega arith, openEnd [] (c ∷ p) tt N (omega arith))
+decode-bad [] ln (c ∷ p) N M = plain (refl, refl, 0, omega arith, openEnd [] (c ∷ p) tt N (omega arith))
 decode-bad (q ∷ ps) ln p N M =
     bind-refusal _ _
     (record { holds = λ n l o e. let u = unhex-refusal ln p .holds n l o e in (u .0, u .2, 0, omega (arith, u .1), badLine [] p (join q ps) tt (no-line ln p N (λ b eb. refused-got (sym e ∙ eb)))) })

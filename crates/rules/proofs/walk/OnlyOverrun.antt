@@ -45,10 +45,10 @@ module _ {d n n′ at at′ : ℕ} where
   unfolding spell Good depth leaves
   past-leaf k v z h u w (behind F left P) =
       let M = length-append (spellBlock (entry k) v) (spell F) in
-      behind-is (leaf k v F) left (record { good = (h, P .good); deep = P .deep; many = omega (arith, P .many) }) (append-assoc (spellBlock (entry k) v) (spell F) left) (omega arith)
+      behind-is (leaf k v F) left (record { good = (h, P .good); deep = omega (arith, P .deep); many = omega (arith, P .many) }) (append-assoc (spellBlock (entry k) v) (spell F) left) (omega arith)
   past-leaf k v z h u w (nestedIn F body rest P g m) =
       let M = length-append (spellBlock (entry k) v) (spell F) in
-      nested-is (leaf k v F) body rest (record { good = (h, P .good); deep = P .deep; many = omega (arith, P .many) }) g (omega arith) (omega arith) (append-assoc (spellBlock (entry k) v) (spell F) (block groupTag body ++ rest)) m
+      nested-is (leaf k v F) body rest (record { good = (h, P .good); deep = omega (arith, P .deep); many = omega (arith, P .many) }) g (omega arith) (omega arith) (append-assoc (spellBlock (entry k) v) (spell F) (block groupTag body ++ rest)) m
 
   past-group : {o : ℕ} {s left : List ℕ} (g : Entries) → some g ≡ true → Passed (d - 1) n g → 0 < d → n′ ≡ n - leaves g → at′ ≡ at + length (block groupTag (spell g)) → Meets d n′ at′ s o left → Meets d n at (block groupTag (spell g) ++ s) o left
   unfolding spell Good depth leaves
@@ -90,11 +90,11 @@ module _ (ln : ℕ) where
       let M = ap length (G .spells) in
       bind-refusal _ _ (weaker (λ a l o x e.
       let y = x e in
-      record { line = y .line; left = y .left; meets = rw (← (G .spells)) (past-group g (sym (full-spell g) ∙ ap full (G .spells) ∙ T .2) (record { good = G .good; deep = G .deep; many = G .many }) (T .1) refl (omega arith) (y .meets)); overruns = y .overruns }) (W d (n - leaves g) (at + 3 + length (h .body)) (h .rest) C)) (λ r er. given)))
+      record { line = y .line; left = y .left; meets = rw (← (G .spells)) (past-group g (sym (full-spell g) ∙ ap full (G .spells) ∙ T .2) (record { good = G .good; deep = omega (arith, G .deep); many = omega (arith, G .many) }) (T .1) refl (omega arith) (y .meets)); overruns = y .overruns }) (W d (n - leaves g) (at + 3 + length (h .body)) (h .rest) C)) (λ r er. given)))
 
   walk-runs : (f : ℕ) → Held (walk ln f)
   unfolding walk spell
-  walk-runs zero d n at s B = plain 0 ln at (λ e. absurd (omega arith))
+  walk-runs zero d n at s B = plain (λ e. absurd (omega arith))
   walk-runs (suc f) d n at [] B = given
   walk-runs (suc f) d n at (x ∷ s) B =
       bind-refusal _ _ (weaker (λ a l o y e. record { line = y .1; left = x ∷ s; meets = behind-is end (x ∷ s) (none-pass d n) refl (omega arith); overruns = (omega arith, y .3) }) (header-refusal ln at (x ∷ s))) (λ h eh.
@@ -152,7 +152,7 @@ module _ (s : Ship) (vs : List Row) (L : Led s vs) where
   closed-over c f C (l ∷ ls) B =
       bind-refusal _ _ (weaker (λ a l′ o x e.
       let q : l′ ≡ 3 + length vs = omega arith in
-      record { left = l; met = rw (q, x .2) (frameBehind s vs c l ls L f C); overruns = (full-length l (B .0), x .3) }) (header-refusal (2 + length vs + 1) 0 l)) (λ h eh. plain 4 (2 + length vs + 1) 0 (λ e. absurd (omega arith)))
+      record { left = l; met = rw (q, x .2) (frameBehind s vs c l ls L f C); overruns = (full-length l (B .0), x .3) }) (header-refusal (2 + length vs + 1) 0 l)) (λ h eh. plain (λ e. absurd (omega arith)))
 
 -- The rows in front grow by one.
 rows-snoc : (vs : List Row) (v : Row) (ls : List (List ℕ)) → behindRows (vs ++ (v ∷ [])) ls ≡ behindRows vs (spellBlock row v ∷ ls)
@@ -164,7 +164,7 @@ rows-snoc (u ∷ vs) v ls = ap (spellBlock row u ∷_) (rows-snoc vs v ls)
 tail-over : (ls : List (List ℕ)) (s : Ship) (vs : List Row) (ln k p : ℕ) → Lines ls → ok ship s ≡ true → ((ws : List Row) → Rising p ws → Rising 0 (vs ++ ws)) → length vs ≤ mostRows → ln ≡ 2 + length vs → k ≡ length vs
     → Refusal (Two (MetOver (lead s vs ls))) (tail ls ln k p)
 unfolding tail after Lines Rising
-tail-over [] s vs ln k p B h up m a b = plain 5 (ln - 1) 0 (λ e. absurd (omega arith))
+tail-over [] s vs ln k p B h up m a b = plain (λ e. absurd (omega arith))
 tail-over (l ∷ ls) s vs ln k p B h up m a b =
     let L : Led s vs = record { hull = h; rising = rw append-nil at (up [] tt); many = m } in
     rw (a, b) (bind-refusal _ _ (frame-over s vs L ls l p (full-length l (B .0)) (B .1)) (λ f ef. go L (λ vs ln k p. tail-over ls s vs ln k p (B .2) h) f (frameAt-sound (2 + length vs) (length vs) p l f (B .1) ef)))
@@ -179,7 +179,7 @@ tail-over (l ∷ ls) s vs ln k p B h up m a b =
 
 frames-over : (ls : List (List ℕ)) → Lines ls → Refusal (Two (MetOver ls)) (readFrames ls)
 unfolding readFrames shipFrame Lines behindRows
-frames-over [] B = plain 5 0 0 (λ e. absurd (omega arith))
+frames-over [] B = plain (λ e. absurd (omega arith))
 frames-over (l ∷ ls) B =
     bind-refusal _ _
     (bind-refusal _ _ (weaker (λ a l′ o x e. record { left = l; met = rw (x .1, x .2) (shipsFrame l ls); overruns = (full-length l (B .0), x .3) }) (header-refusal 1 0 l)) (λ h eh.

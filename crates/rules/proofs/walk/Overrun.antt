@@ -46,7 +46,7 @@ module _ (ln : ℕ) where
       let N = length-append (spell r) s in
       ap (entries ln d n at) (append-assoc (block (entry k .tag) body) (spell r) s)
       ∙ entries-block ln d n at (entry k .tag) body (spell r ++ s) (omega arith) ∙ bind-got _ (entry-passes ln d n at k v (omega (arith, P .many)) (P .good .0))
-      ∙ bind-refused _ (behind-refused r d (n - 1) n′ (at + 3 + length body) at′ s (record { good = P .good .1; deep = P .deep; many = omega (arith, P .many) }) (omega arith) (omega arith) (omega arith) e)
+      ∙ bind-refused _ (behind-refused r d (n - 1) n′ (at + 3 + length body) at′ s (record { good = P .good .1; deep = omega (arith, P .deep); many = omega (arith, P .many) }) (omega arith) (omega arith) (omega arith) e)
   behind-refused (group g r) d n n′ at at′ s P p q l e =
       let L = length-group g r in
       let M = length-append (spell (group g r)) s in

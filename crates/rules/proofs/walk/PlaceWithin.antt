@@ -14,20 +14,20 @@ use Rattle.rules.proofs.layout.Lines.{length-hex, hex-no-lf, lines-soun
 use Rattle.rules.proofs.layout.LineAt.{line-behind}
 use Rattle.rules.proofs.layout.Parts.{full-length}
 use Rattle.rules.proofs.walk.WholeText.{read-steps}
-use Rattle.rules.proofs.walk.Refusals.{Refusal, given, plain, weaker, bind-refusal, test-cases, Above, frameAt-refusal, shipFrame-refusal, closed-refusal}
+use Rattle.rules.proofs.walk.Refusals.{Refusal, given, plain, weaker, bind-refusal, test-cases, NumberFrom, frameAt-refusal, shipFrame-refusal, closed-refusal}
 use Rattle.rules.proofs.walk.BadLine.{Bad, lines-bad}
 
 -- ---- 2 to 6: a byte of a line
 -- A byte of one of these lines, of which the first has the number ln.
 record ByteOf (ls : List (List ℕ)) (ln n l o : ℕ) : Type 0 where
-  number : Above 2 n
+  number : NumberFrom 2 n
   before : ℕ
   counted : ln + before ≡ l
   characters : List ℕ
   line : LineAt (text ls) (1 + before) characters
   inside : 2 * o + 1 < length characters
 
-of-first : (b : List ℕ) (ls : List (List ℕ)) {ln n l o : ℕ} → Above 2 n → l ≡ ln → o < length b → ByteOf (b ∷ ls) ln n l o
+of-first : (b : List ℕ) (ls : List (List ℕ)) {ln n l o : ℕ} → NumberFrom 2 n → l ≡ ln → o < length b → ByteOf (b ∷ ls) ln n l o
 unfolding text
 of-first b ls a q h = record { number = a; before = 0; counted = omega arith; characters = hex b; line = firstLine (hex b) (text ls) (hex-no-lf b); inside = rw (length-hex b) (omega arith) }
 
@@ -43,7 +43,7 @@ closed-within (l ∷ ls) ln B = let g = full-length l (B .0) in weaker (λ n l�
 -- With no A3, the place is the last line's: so x, the line before, is counted in.
 tail-within : (ls : List (List ℕ)) (x : List ℕ) (ln k p : ℕ) → 0 < length x → Lines ls → Refusal (ByteOf (x ∷ ls) ln) (tail ls (ln + 1) k p)
 unfolding tail after Lines
-tail-within [] x ln k p f B = plain 5 (ln + 1 - 1) 0 (of-first x [] (omega arith) (omega arith) f)
+tail-within [] x ln k p f B = plain (of-first x [] (omega arith) (omega arith) f)
 tail-within (l ∷ ls) x ln k p f B =
     let g = full-length l (B .0) in
     bind-refusal _ _ (weaker (λ n l′ o y. of-later x (l ∷ ls) (of-first l ls (y .0) (y .1) (omega arith))) (frameAt-refusal (ln + 1) k p l)) (λ y ey. go (λ k p. tail-within ls l (ln + 1) k p g (B .2)) y)
@@ -60,8 +60,8 @@ frames-within l ls B =
 
 frames-placed : (ls : List (List ℕ)) → Lines ls → length (text ls) ≤ mostCharacters → Refusal (Placed (text ls)) (readFrames ls)
 unfolding readFrames text
-frames-placed [] B c = plain 5 0 0 (emptyText refl)
-frames-placed (l ∷ ls) B c = weaker (λ n l′ o x. atByte (x .number .0) (x .number .1) c (rw (x .counted) at (x .line)) (x .inside)) (frames-within l ls B)
+frames-placed [] B c = plain (emptyText refl)
+frames-placed (l ∷ ls) B c = weaker (λ n l′ o x. atByte (x .number .0) (x .number .1) c (rw (x .counted) at (x .line)) (omega (arith, x .inside))) (frames-within l ls B)
 
 -- ---- 1: a line
 no-line-at : {t : List ℕ} {l : ℕ} → FirstNoLine t l → (p : List ℕ) × LineAt t l p

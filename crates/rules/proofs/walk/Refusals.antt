@@ -26,51 +26,45 @@ pub record Refusal {A : Type 0} (P : ℕ → ℕ → ℕ → Type 0) (m : Ans A)
 pub given : {A : Type 0} {P : ℕ → ℕ → ℕ → Type 0} {a : A} → Refusal P (got a)
 given = record { holds = λ n l o e. refused-got (sym e) }
 
--- A refusal with this number, line and offset.
-pub plain : {A : Type 0} {P : ℕ → ℕ → ℕ → Type 0} (n l o : ℕ) → P n l o → Refusal {A = A} P (refused n l o)
-plain {P = P} n l o h = record { holds = λ n′ l′ o′ e. let a : n ≡ n′ = cc in let b : l ≡ l′ = cc in let c : o ≡ o′ = cc in rw (← a, ← b, ← c) h }
+-- The answer is this refusal.
+pub plain : {A : Type 0} {P : ℕ → ℕ → ℕ → Type 0} {n l o : ℕ} → P n l o → Refusal {A = A} P (refused n l o)
+plain {P = P} {n = n} {l = l} {o = o} h = record { holds = λ n′ l′ o′ e. let a : n ≡ n′ = cc in let b : l ≡ l′ = cc in let c : o ≡ o′ = cc in rw (← a, ← b, ← c) h }
 
 pub weaker : {A : Type 0} {P Q : ℕ → ℕ → ℕ → Type 0} {m : Ans A} → ((n l o : ℕ) → P n l o → Q n l o) → Refusal P m → Refusal Q m
 weaker f h = record { holds = λ n l o e. f n l o (h .holds n l o e) }
 
 pub bind-refusal : {A B : Type 0} {P : ℕ → ℕ → ℕ → Type 0} (m : Ans A) (k : A → Ans B) → Refusal P m → ((a : A) → m ≡ got a → Refusal P (k a)) → Refusal P (m >>= k)
 unfolding _>>=_
-bind-refusal (refused n l o) k f g = plain n l o (f .holds n l o refl)
+bind-refusal (refused n l o) k f g = plain (f .holds n l o refl)
 bind-refusal (got a) k f g = g a refl
 
-pub test-refusal : {B : Type 0} {P : ℕ → ℕ → ℕ → Type 0} (c : Bool) (n l o : ℕ) (k : Ans B) → P n l o → Refusal P k → Refusal P (test c n l o >> k)
-unfolding _>>_ test
-test-refusal true n l o k a f = f
-test-refusal false n l o k a f = plain n l o a
-
--- A test with nothing behind it.
-pub last-refusal : {P : ℕ → ℕ → ℕ → Type 0} (c : Bool) (n l o : ℕ) → P n l o → Refusal P (test c n l o)
-unfolding test
-last-refusal true n l o a = given
-last-refusal false n l o a = plain n l o a
-
--- The same as a test that is followed, with what it came to.
+-- A test, with what it came to; the same with no use of that; and a test with nothing behind it.
 pub test-cases : {B : Type 0} {P : ℕ → ℕ → ℕ → Type 0} (c : Bool) (n l o : ℕ) (k : Ans B) → (c ≡ false → P n l o) → (c ≡ true → Refusal P k) → Refusal P (test c n l o >> k)
 unfolding _>>_ test
 test-cases true n l o k a f = f refl
-test-cases false n l o k a f = plain n l o (a refl)
+test-cases false n l o k a f = plain (a refl)
 
--- A number from 1 to 6.
-abbrev pub Numbered : ℕ → ℕ → ℕ → Type 0
-Numbered n l o = (1 ≤ n) × (n ≤ 6)
+pub test-refusal : {B : Type 0} {P : ℕ → ℕ → ℕ → Type 0} (c : Bool) (n l o : ℕ) (k : Ans B) → P n l o → Refusal P k → Refusal P (test c n l o >> k)
+test-refusal c n l o k a f = test-cases c n l o k (λ z. a) (λ z. f)
 
--- A number from k to 6: from 2 on where a head is read, from 3 on behind it. Then also: at this line and offset; at this line, from one offset on and before another; at no line before.
-abbrev pub Above : ℕ → ℕ → Type 0
-Above k n = (k ≤ n) × (n ≤ 6)
+pub last-refusal : {P : ℕ → ℕ → ℕ → Type 0} (c : Bool) (n l o : ℕ) → P n l o → Refusal P (test c n l o)
+unfolding test
+last-refusal true n l o a = given
+last-refusal false n l o a = plain a
 
+-- A number from k to 6: from 2 on where a head is read, from 3 on behind it.
+abbrev pub NumberFrom : ℕ → ℕ → Type 0
+NumberFrom k n = (k ≤ n) × (n ≤ 6)
+
+-- Then also: at this line and offset; at this line, from one offset on and before another; at no line before.
 abbrev pub At : ℕ → ℕ → ℕ → ℕ → ℕ → ℕ → Type 0
-At k ln at n l o = Above k n × (l ≡ ln) × (o ≡ at)
+At k ln at n l o = NumberFrom k n × (l ≡ ln) × (o ≡ at)
 
 abbrev pub Between : ℕ → ℕ → ℕ → ℕ → ℕ → ℕ → Type 0
-Between ln at e n l o = Above 2 n × (l ≡ ln) × (at ≤ o) × (o < e)
+Between ln at e n l o = NumberFrom 2 n × (l ≡ ln) × (at ≤ o) × (o < e)
 
 abbrev pub NotBefore : ℕ → ℕ → ℕ → ℕ → Type 0
-NotBefore ln n l o = Above 2 n × (ln ≤ l)
+NotBefore ln n l o = NumberFrom 2 n × (ln ≤ l)
 
 -- ---- lines
 -- This line is none.
@@ -85,21 +79,21 @@ module _ (ln : ℕ) where
       go : (a b : Bool) → Refusal (NoLineAt ln) (cond a (got (c - 48)) (cond b (got (c - 55)) (refused 1 ln 0)))
       go true b = given
       go false true = given
-      go false false = plain 1 ln 0 (omega arith)
+      go false false = plain (omega arith)
 
   pub unhex-refusal : (s : List ℕ) → Refusal (NoLineAt ln) (unhex ln s)
   unfolding unhex
   unhex-refusal [] = given
-  unhex-refusal (c ∷ []) = plain 1 ln 0 (omega arith)
+  unhex-refusal (c ∷ []) = plain (omega arith)
   unhex-refusal (c ∷ d ∷ s) = bind-refusal _ _ (nibble-refusal c) (λ x ex. bind-refusal _ _ (nibble-refusal d) (λ y ey. bind-refusal _ _ (unhex-refusal s) (λ r er. given)))
 
-decode-refusal : (ps : List (List ℕ)) (ln : ℕ) (p : List ℕ) → Refusal Numbered (decode ln p ps)
+decode-refusal : (ps : List (List ℕ)) (ln : ℕ) (p : List ℕ) → Refusal (λ n l o. NumberFrom 1 n) (decode ln p ps)
 unfolding decode
 decode-refusal [] ln [] = given
-decode-refusal [] ln (c ∷ p) = plain 1 ln 0 (omega arith)
+decode-refusal [] ln (c ∷ p) = plain (omega arith)
 decode-refusal (q ∷ ps) ln p = bind-refusal _ _ (weaker (λ n l o h. omega arith) (unhex-refusal ln p)) (λ b eb. test-refusal _ _ _ _ _ (omega arith) (bind-refusal _ _ (decode-refusal ps (ln + 1) q) (λ r er. given)))
 
-lines-refusal : (ln : ℕ) (t : List ℕ) → Refusal Numbered (linesFrom ln t)
+lines-refusal : (ln : ℕ) (t : List ℕ) → Refusal (λ n l o. NumberFrom 1 n) (linesFrom ln t)
 unfolding linesFrom
 lines-refusal ln t = decode-refusal (split t .1) ln (split t .0)
 
@@ -111,9 +105,9 @@ module _ (ln : ℕ) where
 
   pub header-refusal : (at : ℕ) (s : List ℕ) → Refusal (Short at s) (header ln at s)
   unfolding header num
-  header-refusal at [] = plain 2 ln at (omega arith)
-  header-refusal at (t ∷ []) = plain 2 ln at (omega arith)
-  header-refusal at (t ∷ a ∷ []) = plain 2 ln at (omega arith)
+  header-refusal at [] = plain (omega arith)
+  header-refusal at (t ∷ []) = plain (omega arith)
+  header-refusal at (t ∷ a ∷ []) = plain (omega arith)
   header-refusal at (t ∷ a ∷ b ∷ s) = test-cases _ _ _ _ _ (λ c. omega (arith, leb-false (num (a ∷ b ∷ [])) (length s) c)) (λ c. given)
 
   fixed-refusal : {A : Type 0} (L : Layout A) (room : Bool) (at : ℕ) (body : List ℕ) → Refusal (At 3 ln at) (fixed ln L room at body)
@@ -128,7 +122,7 @@ module _ (ln : ℕ) where
       go true b c = given
       go false true c = given
       go false false true = given
-      go false false false = plain 4 ln at (omega arith)
+      go false false false = plain (omega arith)
 
   pub block-refusal : (d n at t : ℕ) (body : List ℕ) → Refusal (At 3 ln at) (blockAt ln d n at t body)
   unfolding blockAt begun
@@ -174,7 +168,7 @@ module _ (ln : ℕ) where
 
   -- Inside the condition: 5 at its own offset, or behind its head; before its end.
   abbrev Inner : List ℕ → ℕ → ℕ → ℕ → Type 0
-  Inner body n l o = Above 2 n × (l ≡ ln) × (0 < o → 3 ≤ o) × (n ≤ 4 → 3 ≤ o) × (o < 3 + length body)
+  Inner body n l o = NumberFrom 2 n × (l ≡ ln) × (0 < o → 3 ≤ o) × (n ≤ 4 → 3 ≤ o) × (o < 3 + length body)
 
   pub inside-refusal : (body : List ℕ) → Refusal (Inner body) (inside ln body)
   unfolding inside loadAt
@@ -197,9 +191,9 @@ module _ (ln : ℕ) where
       go : (a b : Bool) → Refusal (At 3 ln 0) (cond a (got aRow) (cond b (got aCondition) (refused 4 ln 0)))
       go true b = given
       go false true = given
-      go false false = plain 4 ln 0 (omega arith)
+      go false false = plain (omega arith)
 
-  pub row-refusal : (p : ℕ) (h : Head) → Refusal (At 3 ln 0) (rowIn ln p h)
+  row-refusal : (p : ℕ) (h : Head) → Refusal (At 3 ln 0) (rowIn ln p h)
   unfolding rowIn
   row-refusal p h = bind-refusal _ _ (fixedIn-refusal row h) (λ v ev. test-refusal _ _ _ _ _ (omega arith) given)
 
@@ -230,11 +224,11 @@ module _ (ln : ℕ) where
   pub closed-refusal : (ls : List (List ℕ)) → Refusal (At 2 ln 0) (closed ln ls)
   unfolding closed
   closed-refusal [] = given
-  closed-refusal (l ∷ ls) = bind-refusal _ _ (weaker (λ n l o x. omega arith) (header-refusal 0 l)) (λ h eh. plain 4 ln 0 (omega arith))
+  closed-refusal (l ∷ ls) = bind-refusal _ _ (weaker (λ n l o x. omega arith) (header-refusal 0 l)) (λ h eh. plain (omega arith))
 
 -- The lines of refusals among the frames left: with none left it is the line before.
 abbrev Left : List (List ℕ) → ℕ → ℕ → ℕ → ℕ → Type 0
-Left [] ln n l o = Above 2 n × (ln ≤ l + 1)
+Left [] ln n l o = NumberFrom 2 n × (ln ≤ l + 1)
 Left (x ∷ ls) ln n l o = NotBefore ln n l o
 
 not-before : (ls : List (List ℕ)) (ln n l o : ℕ) → Left ls (ln + 1) n l o → NotBefore ln n l o
@@ -243,19 +237,19 @@ not-before (x ∷ ls) ln n l o h = omega arith
 
 pub tail-refusal : (ls : List (List ℕ)) (ln k p : ℕ) → Refusal (Left ls ln) (tail ls ln k p)
 unfolding tail after
-tail-refusal [] ln k p = plain 5 (ln - 1) 0 (omega arith)
+tail-refusal [] ln k p = plain (omega arith)
 tail-refusal (l ∷ ls) ln k p = bind-refusal _ _ (weaker (λ n l o x. omega arith) (frameAt-refusal ln k p l)) (λ f ef. go (λ ln k p. tail-refusal ls ln k p) f)
   where
     go : ((ln k p : ℕ) → Refusal (Left ls ln) (tail ls ln k p)) → (f : Found) → Refusal (NotBefore ln) (after (tail ls) ls ln k f)
     go w (tableRow v) = bind-refusal _ _ (weaker (not-before ls ln) (w _ _ _)) (λ x ex. given)
     go w (theCondition c) = bind-refusal _ _ (weaker (λ n l o x. omega arith) (closed-refusal (ln + 1) ls)) (λ u eu. given)
 
-pub readFrames-refusal : (ls : List (List ℕ)) → Refusal (λ n l o. Above 2 n) (readFrames ls)
+pub readFrames-refusal : (ls : List (List ℕ)) → Refusal (λ n l o. NumberFrom 2 n) (readFrames ls)
 unfolding readFrames
-readFrames-refusal [] = plain 5 0 0 (omega arith)
+readFrames-refusal [] = plain (omega arith)
 readFrames-refusal (l ∷ ls) = bind-refusal _ _ (weaker (λ n l o x. x .0) (shipFrame-refusal 1 l)) (λ v ev. bind-refusal _ _ (weaker (λ n l o x. not-before ls 1 n l o x .0) (tail-refusal ls 2 0 0)) (λ x ex. given))
 
-pub read-refusal : (t : List ℕ) → Refusal Numbered (read t)
+pub read-refusal : (t : List ℕ) → Refusal (λ n l o. NumberFrom 1 n) (read t)
 read-refusal t = rw (read-steps t) (test-refusal _ _ _ _ _ (omega arith) (bind-refusal _ _ (lines-refusal 1 t) (λ ls els. weaker (λ n l o h. omega arith) (readFrames-refusal ls))))
 
 -- ---- what follows
