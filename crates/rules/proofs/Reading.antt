@@ -102,7 +102,7 @@ first-open-line front p B N s l = open-line front p B N s l
 pub one-iff-no-line : (t : List ℕ) → length t ≤ mostCharacters → (l o : ℕ) → (read t ≡ refused 1 l o) ↔ ((o ≡ 0) × FirstNoLine t l)
 one-iff-no-line t c l o = one-no-line t c l o
 
--- Refusal 1 with line 0 and offset 0 says that the text is over 12,000 characters.
+-- A text is refused with 1 at line 0 and offset 0 exactly when it is over 12,000 characters.
 pub one-iff-too-long : (t : List ℕ) → (read t ≡ refused 1 0 0) ↔ (mostCharacters < length t)
 one-iff-too-long t = one-too-long t
 
@@ -111,11 +111,11 @@ pub lines-before-blocks : (t : List ℕ) (n l o : ℕ) → read t ≡ refused n 
 lines-before-blocks t n l o e h = lines-unless-one t n l o e h
 
 -- ---- where a refusal stands
--- A refusal of a text, 7 and 8 included, has one of the numbers 1 to 8, and its place lies within the text: for 1 one of the text's own lines and offset 0, or line 0 where the text is over 12,000 characters;
--- for 2 to 6 a byte of one of the text's own lines, or, of the empty text, 5 with line 0 and offset 0; for 7 and 8 line 0 and offset 0.
+-- Every refusal of a text has a number from 1 to 8, and its place lies within the text. For 1 it is one of the text's own lines, with offset 0, or line 0 and offset 0 where the text is over 12,000 characters.
+-- For 2 to 6 it is a byte of one of the text's own lines; for 5 also line 0 and offset 0 where the text is empty. For 7 and 8 it is line 0 and offset 0.
 pub place-within : (t : List ℕ) (n l o : ℕ) → answered t ≡ refused n l o → Placed t n l o
 place-within t n l o e = places.place-within t n l o e
 
--- A line of a text is one list of characters.
+-- Line n of a text is one list of characters and no other.
 pub one-line : (t : List ℕ) (n : ℕ) (p p′ : List ℕ) → LineAt t n p → LineAt t n p′ → p ≡ p′
 one-line t n p p′ a b = line-unique a b
