@@ -18,7 +18,7 @@ use Rattle.rules.specs.Answer.{judged, answered, number, written}
 use Rattle.rules.proofs.answer.Steps.{answered-refused, answered-read, judged-refused, judged-weighed, number-room, written-room}
 use Rattle.rules.proofs.loading.Fair.{fair}
 use Rattle.rules.proofs.walk.WholeText.{sound}
-use Rattle.rules.proofs.walk.PlaceWithin.{place-within}
+use Rattle.rules.proofs.answer.Placed.{place-within, place-short}
 use Rattle.book.specs.Book.{shipOf, weatherOf, rowsOf, loadedOf, judgementOf, refusal}
 use Rattle.book.specs.declared.Table.{Table}
 use Rattle.book.specs.declared.Loaded as plain
@@ -110,7 +110,7 @@ module _ (t : List ℕ) (x : TextRead) (e : x ≡ told (read t)) where
 
   -- The place fits the report's two bytes for each.
   pub place-fits : (f : Refusal) → x .answer ≡ answer.Refused f → (f .line < 65536) × (f .offset < 65536)
-  place-fits f p = let h = place-within t (refused-read f p) in omega arith
+  place-fits f p = place-short (place-within t (f .number) (f .line) (f .offset) (answered-refused t (refused-read f p)))
 
 -- ---- what is sent back
 module _ (t before after : List ℕ) (n : ℕ) (h : reportLength ≤ length before) where

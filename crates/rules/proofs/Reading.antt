@@ -1,9 +1,9 @@
 -- What is promised of the reading of a text, to be read without the proofs: each promise is one theorem with a sentence above it, and its proof stands elsewhere.
--- Its words are defined in specs/: Layout says which texts are allowed, Walk in which order they are checked, Places where blocks stand, Leaves what is summed, Met what a reading comes to.
+-- Its words are defined in specs/: Layout says which texts are allowed, Walk in which order they are checked, Places where blocks and refusals stand, Leaves what is summed, Met what a reading comes to.
 use mathlib.Core.Path.{_≡_, sym}
 use mathlib.Core.Logic.{_↔_, _≢_}
 use mathlib.Core.List.{List, _∷_, _++_}
-use Prim.Native.Nat.{ℕ, _+_, _≤_}
+use Prim.Native.Nat.{ℕ, _+_, _≤_, _<_}
 use lib.ListN.{length, getD}
 use Rattle.rules.specs.Rounding.{ceil}
 use Rattle.rules.specs.Text.{LF, text, Lines}
@@ -13,17 +13,19 @@ use Rattle.rules.specs.Outcome.{refused, got}
 use Rattle.rules.specs.Walk.{linesFrom, read}
 use Rattle.rules.specs.Loading.{flat, mass, moment, freeSurface, displacement, correctedKG, entriesOf}
 use Rattle.rules.specs.Leaves.{sumLeaves, ungrouped, loadedWith}
-use Rattle.rules.specs.Places.{LinesFill, SameBefore, lookedAt}
-use Rattle.rules.specs.Met.{Met, Overruns, NoLine}
-use Rattle.rules.specs.Answer.{judged}
+use Rattle.rules.specs.Places.{LinesFill, SameBefore, lookedAt, LineAt, Placed}
+use Rattle.rules.specs.Met.{Met, Overruns, NoLF, NoLine, FirstNoLine}
+use Rattle.rules.specs.Answer.{judged, answered}
 use Rattle.rules.proofs.walk.WholeText.{sound, lines-of-reading, reading-unique}
 use Rattle.rules.proofs.walk.Refusals.{number-of-refusal, not-both, unrefused-iff-allowed}
 use Rattle.rules.proofs.layout.InsideParent.{reading-fills}
 use Rattle.rules.proofs.loading.Sums.{leaves-flat, displacement-leaves, correctedKG-leaves, flat-ungrouped, judged-same}
-use Rattle.rules.proofs.walk.Overrun.{overrun}
+use Rattle.rules.proofs.walk.OnlyOverrun.{two-overrun}
 use Rattle.rules.proofs.bench.Drawing.{drawing, drawing-refused}
 use Rattle.rules.proofs.walk.FirstFault.{fault-stands}
-use Rattle.rules.proofs.walk.BadLine.{bad-line}
+use Rattle.rules.proofs.walk.BadLine.{bad-line, open-line, one-no-line, one-too-long, lines-unless-one}
+use Rattle.rules.proofs.layout.LineAt.{line-unique}
+use Rattle.rules.proofs.answer.Placed as places
 
 -- ---- which texts are read
 -- A text gets none of refusals 1 to 6 exactly when it is allowed.
@@ -64,13 +66,17 @@ pub grouping-free : (r : Reading) (F G : Entries) → flat F ≡ flat G → judg
 grouping-free r F G e = judged-same r F G e
 
 -- ---- what is refused
--- Whatever else a text holds: where a block is met whose length runs past its parent, or one or two bytes where a block would begin, the answer is refusal 2 at that block's line and offset.
-pub overrun-refused : (ls : List (List ℕ)) (ln o : ℕ) (left : List ℕ) → Lines ls → length (text ls) ≤ mostCharacters → Met ls ln o left → Overruns left → read (text ls) ≡ refused 2 ln o
-overrun-refused ls ln o left B l m v = overrun ls B l m v
+-- A text of lines within 12,000 characters is refused with 2 at a line and an offset exactly where a block is met there whose length runs past its parent, or one or two bytes where a block would begin.
+pub two-iff-overrun : (ls : List (List ℕ)) → Lines ls → length (text ls) ≤ mostCharacters → (ln o : ℕ) → (read (text ls) ≡ refused 2 ln o) ↔ ((left : List ℕ) × Met ls ln o left × Overruns left)
+two-iff-overrun ls B l ln o = two-overrun ls B l ln o
 
--- So no such text is ever read.
+-- So, whatever else a text holds: where such a block is met, the answer is refusal 2 at that block's line and offset.
+pub overrun-refused : (ls : List (List ℕ)) (ln o : ℕ) (left : List ℕ) → Lines ls → length (text ls) ≤ mostCharacters → Met ls ln o left → Overruns left → read (text ls) ≡ refused 2 ln o
+overrun-refused ls ln o left B l m v = two-iff-overrun ls B l ln o .1 (left, m, v)
+
+-- And no such text is ever read.
 pub overrun-never-read : (ls : List (List ℕ)) (ln o : ℕ) (left : List ℕ) → Lines ls → length (text ls) ≤ mostCharacters → Met ls ln o left → Overruns left → ¬ Allowed (text ls)
-overrun-never-read ls ln o left B l m v = not-both (text ls) 2 ln o (overrun ls B l m v)
+overrun-never-read ls ln o left B l m v = not-both (text ls) 2 ln o (overrun-refused ls ln o left B l m v)
 
 -- The surveyor's drawing, a group of tanks whose length runs past its parent but not past the line, is refused so.
 pub drawing-is-refused : read drawing ≡ refused 2 4 21
@@ -87,3 +93,29 @@ first-fault front later later′ l l′ n o B c B′ c′ A five e = fault-stand
 -- Nor does 1 depend on what stands behind the line that it names, within 12,000 characters: behind lines, characters that are no line, an LF and anything are refused with 1 there.
 pub first-bad-line : (front : List (List ℕ)) (p rest : List ℕ) → Lines front → NoLine p → length (text front ++ (p ++ (LF ∷ rest))) ≤ mostCharacters → read (text front ++ (p ++ (LF ∷ rest))) ≡ refused 1 (1 + length front) 0
 first-bad-line front p rest B N l = bad-line front p rest B N l
+
+-- So is a last line with no LF: behind lines, characters, at least one and none of them an LF, and then the end, are refused with 1 there, whatever they are.
+pub first-open-line : (front : List (List ℕ)) (p : List ℕ) → Lines front → NoLF p → 0 < length p → length (text front ++ p) ≤ mostCharacters → read (text front ++ p) ≡ refused 1 (1 + length front) 0
+first-open-line front p B N s l = open-line front p B N s l
+
+-- And nothing else is: a text within 12,000 characters is refused with 1 exactly where it is lines and behind them no line, at that line's number and offset 0.
+pub one-iff-no-line : (t : List ℕ) → length t ≤ mostCharacters → (l o : ℕ) → (read t ≡ refused 1 l o) ↔ ((o ≡ 0) × FirstNoLine t l)
+one-iff-no-line t c l o = one-no-line t c l o
+
+-- A text is refused with 1 at line 0 and offset 0 exactly when it is over 12,000 characters.
+pub one-iff-too-long : (t : List ℕ) → (read t ≡ refused 1 0 0) ↔ (mostCharacters < length t)
+one-iff-too-long t = one-too-long t
+
+-- Every text that is refused with another number than 1 is lines, within 12,000 characters: so the promises above that ask for these leave none of them out.
+pub lines-before-blocks : (t : List ℕ) (n l o : ℕ) → read t ≡ refused n l o → n ≢ 1 → (ls : List (List ℕ)) × Lines ls × (text ls ≡ t) × (length t ≤ mostCharacters)
+lines-before-blocks t n l o e h = lines-unless-one t n l o e h
+
+-- ---- where a refusal stands
+-- Every refusal of a text has a number from 1 to 8, and its place lies within the text. For 1 it is one of the text's own lines, with offset 0, or line 0 and offset 0 where the text is over 12,000 characters.
+-- For 2 to 6 it is a byte of one of the text's own lines; for 5 also line 0 and offset 0 where the text is empty. For 7 and 8 it is line 0 and offset 0.
+pub place-within : (t : List ℕ) (n l o : ℕ) → answered t ≡ refused n l o → Placed t n l o
+place-within t n l o e = places.place-within t n l o e
+
+-- Line n of a text is one list of characters and no other.
+pub one-line : (t : List ℕ) (n : ℕ) (p p′ : List ℕ) → LineAt t n p → LineAt t n p′ → p ≡ p′
+one-line t n p p′ a b = line-unique a b

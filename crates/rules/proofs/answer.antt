@@ -1,4 +1,5 @@
--- What is sent back: laws of specs/Report and Answer.
+-- What is sent back: laws of specs/Report, Columns and Answer, and where a refusal stands (specs/Places).
 pub mod Steps
 pub mod Length
 pub mod Columns
+pub mod Placed

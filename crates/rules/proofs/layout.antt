@@ -2,6 +2,7 @@
 pub mod Numbers
 pub mod Fields
 pub mod Lines
+pub mod LineAt
 pub mod Parts
 pub mod Edges
 pub mod Counts

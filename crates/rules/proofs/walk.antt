@@ -10,6 +10,7 @@ pub mod Fuel
 pub mod BlockExits
 pub mod FrameExits
 pub mod Overrun
+pub mod OnlyOverrun
 pub mod HeadAlone
 pub mod SameBefore
 pub mod EntryFault

@@ -1,5 +1,5 @@
 -- 'Blocks as they begin, first byte to last': which blocks the reading of a text comes to, said with no reader.
--- A block is met where all that stands before it keeps the layout and the limits. What stands behind it may be anything.
+-- A block is met where all that stands before it keeps the layout and the limits. What stands behind it may be anything. So with the first line that is none.
 use mathlib.Core.Path.{_≡_}
 use mathlib.Core.Logic.{_≢_}
 use mathlib.Core.Bool.{true}
@@ -7,7 +7,7 @@ use mathlib.Core.List.{List, [], _∷_, _++_}
 use Prim.Native.Nat.{ℕ, _+_, _-_, _≤_, _<_}
 use lib.ListN.{length}
 use Rattle.rules.specs.Numbers.{Bytes, full}
-use Rattle.rules.specs.Text.{LF, hex}
+use Rattle.rules.specs.Text.{LF, hex, text, Lines}
 use Rattle.rules.specs.Blocks.{block, ok, spellBlock, Ship, ship, Row, row, conditionTag, Weather, weather, groupTag}
 use Rattle.rules.specs.Layout.{Entries, Condition, spell, spellCondition, leaves, depth, Good, Rising, fewestRows, mostRows, mostDepth, mostEntries, mostBytes, ConditionLimits}
 use Rattle.rules.specs.Parts.{be2}
@@ -70,3 +70,10 @@ NoLF (c ∷ p) = (c ≢ LF) × NoLF p
 
 abbrev pub NoLine : List ℕ → Type 0
 NoLine p = NoLF p × ((b : List ℕ) → full b ≡ true → Bytes b → hex b ≢ p)
+
+-- `FirstNoLine t l`: the text is lines, l - 1 of them, and what stands behind them is no line.
+pub data FirstNoLine : List ℕ → ℕ → Type 0 where
+  -- characters that are none, then an LF, then anything
+  badLine : (front : List (List ℕ)) (p rest : List ℕ) → Lines front → NoLine p → FirstNoLine (text front ++ (p ++ (LF ∷ rest))) (1 + length front)
+  -- characters, at least one, with no LF behind them
+  openEnd : (front : List (List ℕ)) (p : List ℕ) → Lines front → NoLF p → 0 < length p → FirstNoLine (text front ++ p) (1 + length front)

@@ -1,13 +1,15 @@
--- Where blocks stand: by the tags and the lengths that the bytes of a line say themselves.
+-- Where blocks stand, by the tags and the lengths that the bytes of a line say themselves; and where a refusal may stand, by the characters of the text.
 use mathlib.Core.Path.{_≡_}
 use mathlib.Core.Bool.{cond}
 use mathlib.Core.List.{List, [], _∷_, _++_}
-use Prim.Native.Nat.{ℕ, _+_, _≤_, _<_}
+use Prim.Native.Nat.{ℕ, _+_, _*_, _≤_, _<_}
 use lib.ListN.{length, getD}
 use lib.Dec.{leb}
+use Rattle.rules.specs.Text.{LF}
 use Rattle.rules.specs.Blocks.{conditionTag, weather, entry, groupTag}
-use Rattle.rules.specs.Layout.{Entries, end, leaf, group, Condition}
+use Rattle.rules.specs.Layout.{Entries, end, leaf, group, Condition, mostCharacters}
 use Rattle.rules.specs.Parts.{be2}
+use Rattle.rules.specs.Met.{NoLF}
 
 -- Where the block at an offset of a line ends: its head, and its own length.
 abbrev pub endOf : List ℕ → ℕ → ℕ
@@ -52,3 +54,26 @@ pub record SameBefore (e : ℕ) (l l′ : List ℕ) : Type 0 where
 -- How far a refusal looks, of the block that it names at offset o: 2, 4 and 3 at its head, 5 and 6 to its end.
 abbrev pub lookedAt : List ℕ → ℕ → ℕ → ℕ
 lookedAt line number o = cond (leb number 4) (o + 3) (endOf line o)
+
+-- ---- the place of a refusal
+-- `LineAt t n p`: line n of the text t, counted from 1, has the characters p. Its LF is not among them.
+pub data LineAt : List ℕ → ℕ → List ℕ → Type 0 where
+  -- the first line, up to its LF
+  firstLine : (p rest : List ℕ) → NoLF p → LineAt (p ++ (LF ∷ rest)) 1 p
+  -- the first line, with no LF behind it: what stands behind the last LF, if anything, counts as a line
+  openLine : (p : List ℕ) → NoLF p → 0 < length p → LineAt p 1 p
+  -- a later line: one of those behind the first line and its LF
+  laterLine : {n : ℕ} {p : List ℕ} (q rest : List ℕ) → NoLF q → LineAt rest n p → LineAt (q ++ (LF ∷ rest)) (1 + n) p
+
+-- `Placed t n l o`: where the text t is refused with n, line l and offset o may be named. Nothing else may. (9 is of the buffer, and not of the text.)
+pub data Placed (t : List ℕ) : ℕ → ℕ → ℕ → Type 0 where
+  -- 1: 'over 12,000 characters (line 0)'
+  tooLong : mostCharacters < length t → Placed t 1 0 0
+  -- 1: one of the text's own lines
+  atLine : {l : ℕ} {p : List ℕ} → length t ≤ mostCharacters → LineAt t l p → Placed t 1 l 0
+  -- 5: 'empty text'
+  emptyText : t ≡ [] → Placed t 5 0 0
+  -- 2 to 6: a byte of one of the text's own lines; both its characters stand in that line
+  atByte : {n l o : ℕ} {p : List ℕ} → 2 ≤ n → n ≤ 6 → length t ≤ mostCharacters → LineAt t l p → 2 * o + 1 < length p → Placed t n l o
+  -- 7 and 8: no place
+  unweighed : {n : ℕ} → 7 ≤ n → n ≤ 8 → Placed t n 0 0

@@ -4,24 +4,29 @@ use mathlib.Core.Bool.{Bool, true, false}
 use mathlib.Core.List.{List, _++_, map}
 use Prim.Native.Nat.{ℕ, _≤_, _<_}
 use lib.ListN.{length, drop}
+use lib.Dec.{leb}
 use borrow.Author.Tests.{lt-ltb, le-ltb}
 use Rattle.rules.specs.Layout.{Reading}
-use Rattle.rules.specs.Outcome.{refused, got, _>>=_, _>>_}
+use Rattle.rules.specs.Outcome.{refused, got, test, _>>=_, _>>_}
 use Rattle.rules.specs.Walk.{read}
-use Rattle.rules.specs.Loading.{weighed}
+use Rattle.rules.specs.Loading.{inTable, displacement, correctedKG, greatestKG, entriesOf, weighed}
 use Rattle.rules.specs.Curve.{loaded}
 use Rattle.rules.specs.Report.{verdictNumber, Judgement, judgement, noJudgement, reportLength, reportLine}
 use Rattle.rules.specs.Answer.{judged, answered, numberOf, reportOf, number, written}
 use Rattle.rules.proofs.walk.Outcome.{bind-got, bind-refused}
 
 -- ---- what is answered
-answered-steps : (t : List ℕ) → answered t ≡ (read t >>= judged)
+pub answered-steps : (t : List ℕ) → answered t ≡ (read t >>= judged)
 unfolding answered
 answered-steps t = refl
 
-judged-steps : (r : Reading) → judged r ≡ (weighed r >>= λ u. got (judgement (loaded r)))
+pub judged-steps : (r : Reading) → judged r ≡ (weighed r >>= λ u. got (judgement (loaded r)))
 unfolding judged
 judged-steps r = refl
+
+pub weighed-steps : (r : Reading) → weighed r ≡ (test (inTable (r .rows) (displacement (entriesOf r))) 7 0 0 >> test (leb (correctedKG (entriesOf r)) greatestKG) 8 0 0)
+unfolding weighed
+weighed-steps r = refl
 
 pub answered-refused : (t : List ℕ) {n l o : ℕ} → read t ≡ refused n l o → answered t ≡ refused n l o
 answered-refused t e = answered-steps t ∙ bind-refused judged e

@@ -5,13 +5,13 @@ use Prim.Native.Nat.{ℕ, _-_, _≤_}
 use native.Mathlib.Omega.{arith}
 use lib.ListN.{length}
 use Rattle.rules.specs.Blocks.{block, spellValues, within, ok, spellBlock, Ship, Row, conditionTag, Weather, weather, Tank, tank, entry, groupTag}
-use Rattle.rules.specs.Layout.{end, spell, leaves, depth, Good, Rising, mostDepth, mostEntries, mostCharacters}
+use Rattle.rules.specs.Layout.{end, spell, leaves, Rising, mostDepth, mostEntries, mostCharacters}
 use Rattle.rules.specs.Outcome.{refused, got}
 use Rattle.rules.specs.Walk.{linesFrom, read}
-use Rattle.rules.specs.Met.{Passed, behind, nestedIn, behindRows, lead, Met, entryBlock, Overruns}
+use Rattle.rules.specs.Met.{behind, nestedIn, behindRows, lead, Met, entryBlock, Overruns}
 use Rattle.rules.proofs.bench.Bench.{with}
 use Rattle.rules.proofs.layout.Lines.{lines-sound}
-use Rattle.rules.proofs.walk.Overrun.{overrun}
+use Rattle.rules.proofs.walk.Overrun.{none-pass, overrun}
 
 -- As characters: the outer group has the length 0014, the inner one 0022, and behind the outer one the line goes on.
 abbrev pub drawing : List ℕ
@@ -44,16 +44,12 @@ drawn-is : linesFrom 1 drawing ≡ got drawn
 unfolding read block spellBlock spellValues behindRows
 drawn-is = refl
 
-nothing : (d n : ℕ) → Passed d n end
-unfolding leaves depth Good
-nothing d n = record { good = tt; deep = omega arith; many = omega arith }
-
 -- The inner group is met at line 4 and offset 21, and 20 bytes of its parent are left.
 drawn-met : Met drawn 4 21 held
 unfolding block spellBlock spellValues spell leaves Rising ok within
 drawn-met =
     entryBlock hull rows sky (block groupTag held ++ spellBlock (entry tank) aTank) [] (record { hull = refl; rising = (refl, omega arith, (refl, omega arith, tt)); many = omega arith }) (omega arith) refl (omega arith)
-    (nestedIn end held (spellBlock (entry tank) aTank) (nothing mostDepth mostEntries) (omega arith) (behind end held (nothing (mostDepth - 1) mostEntries)))
+    (nestedIn end held (spellBlock (entry tank) aTank) (none-pass mostDepth mostEntries) (omega arith) (behind end held (none-pass (mostDepth - 1) mostEntries)))
 
 drawn-overruns : Overruns held
 unfolding block spellBlock spellValues

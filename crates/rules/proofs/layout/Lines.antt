@@ -73,11 +73,11 @@ unhex-got ln (b ∷ s) B =
 
 -- ---- the lines of a text
 -- The pieces of a text, with an LF between.
-join : List ℕ → List (List ℕ) → List ℕ
+unfoldable pub join : List ℕ → List (List ℕ) → List ℕ
 join p [] = p
 join p (q ∷ ps) = p ++ (LF ∷ join q ps)
 
-join-split : (t : List ℕ) → join (split t .0) (split t .1) ≡ t
+pub join-split : (t : List ℕ) → join (split t .0) (split t .1) ≡ t
 unfolding join split put
 join-split [] = refl
 join-split (c ∷ t) = go (eqb c LF) refl (split t) (join-split t)

@@ -7,7 +7,7 @@ use native.Mathlib.Omega.{arith}
 use lib.ListN.{length}
 use borrow.Author.Tests.{eqb-true}
 use Rattle.rules.specs.Numbers.{Bytes, full}
-use Rattle.rules.specs.Blocks.{block, spellValues, spellBlock, weather}
+use Rattle.rules.specs.Blocks.{block, spellValues, ok, spellBlock, Weather, weather}
 use Rattle.rules.specs.Layout.{Condition, spell, spellCondition, mostDepth, mostEntries, mostBytes, ConditionLimits}
 use Rattle.rules.specs.Outcome.{got}
 use Rattle.rules.specs.Walk.{weatherAt, loadAt, inside}
@@ -26,22 +26,28 @@ unfolding spellCondition
 Bytes-condition c l =
     Bytes-append (spellBlock weather (c .weather)) (spell (c .load)) (Bytes-fixed weather weather-lawful (c .weather) (l .sky)) (Bytes-entries (c .load) (l .good) (omega (arith, length-condition c, l .long)))
 
+-- What stands as the weather, is read as it.
+pub weather-sound : (ln t : ℕ) (body : List ℕ) (w : Weather) → Bytes body → weatherAt ln t body ≡ got w → (spellBlock weather w ≡ block t body) × (ok weather w ≡ true)
+unfolding weatherAt spellBlock
+weather-sound ln t body w B e =
+    let x = test-inv _ _ _ _ _ e in
+    let f = fixed-sound ln 3 weather weather-lawful true body w B (x .1) in
+    (ap₂ block (sym (eqb-true t (weather .tag) (x .0))) (f .0), f .2)
+
 pub inside-sound : (ln : ℕ) (body : List ℕ) (c : Condition) → Bytes body → length body ≤ mostBytes → inside ln body ≡ got c → (spellCondition c ≡ body) × ConditionLimits c
-unfolding inside weatherAt loadAt spellCondition spellBlock
+unfolding inside loadAt spellCondition
 inside-sound ln body c B l e =
     let a = test-inv _ _ _ _ _ e in
     let b = bind-inv _ _ (a .1) in
     let v = bind-inv _ _ (b .2) in
-    let t = test-inv _ _ _ _ _ (v .1) in
     let x = bind-inv _ _ (v .2) in
     let s = test-inv _ _ _ _ _ (x .1) in
     let q : _≡_ {A = Condition} (record { weather = v .0; load = x .0 }) c = cc in
     let h = header-sound ln 3 body (b .0) B (b .1) in
-    let f = fixed-sound ln 3 weather weather-lawful true (b .0 .body) (v .0) (h .1) (t .1) in
+    let f = weather-sound ln (b .0 .tag) (b .0 .body) (v .0) (h .1) (v .1) in
     let g = entries-sound ln mostDepth mostEntries (6 + length (b .0 .body)) (b .0 .rest) (x .0) (h .2) (s .1) in
-    let p : spellBlock weather (v .0) ++ spell (x .0) ≡ body =
-    ap₂ (λ x y. block (weather .tag) x ++ y) (f .0) (g .spells) ∙ ap (λ x. block x (b .0 .body) ++ b .0 .rest) (sym (eqb-true (b .0 .tag) (weather .tag) (t .0))) ∙ h .0
-    in rw (← q) (p, record { sky = f .2; good = g .good; any = sym (full-spell (x .0)) ∙ ap full (g .spells) ∙ s .0; deep = g .deep; many = g .many; long = omega (arith, ap length p) })
+    let p : spellBlock weather (v .0) ++ spell (x .0) ≡ body = ap₂ _++_ (f .0) (g .spells) ∙ h .0 in
+    rw (← q) (p, record { sky = f .1; good = g .good; any = sym (full-spell (x .0)) ∙ ap full (g .spells) ∙ s .0; deep = g .deep; many = g .many; long = omega (arith, ap length p) })
 
 pub inside-got : (ln : ℕ) (c : Condition) → ConditionLimits c → inside ln (spellCondition c) ≡ got c
 unfolding inside weatherAt loadAt spellCondition spellBlock

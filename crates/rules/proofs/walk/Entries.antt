@@ -58,7 +58,7 @@ abbrev pub Sound : Walk → Type 0
 Sound w = (d n at : ℕ) (s : List ℕ) (F : Entries) → Bytes s → w d n at s ≡ got F → Stands d n s F
 
 -- What a block that passed its tests tells.
-abbrev BlockSpelled : ℕ → ℕ → Head → Block → Type 0
+abbrev pub BlockSpelled : ℕ → ℕ → Head → Block → Type 0
 BlockSpelled d n h (one k v) = (spellBlock (entry k) v ≡ block (h .tag) (h .body)) × (0 < n) × (ok (entry k) v ≡ true)
 BlockSpelled d n h nest = (groupTag ≡ h .tag) × (0 < d) × (full (h .body) ≡ true)
 
@@ -82,7 +82,7 @@ module _ (ln : ℕ) where
       let q : nest ≡ b = cc in
       (q, ltb-true 0 d (a .0), f .0)
 
-  block-sound : (d n at : ℕ) (h : Head) (b : Block) → Bytes (h .body) → blockAt ln d n at (h .tag) (h .body) ≡ got b → BlockSpelled d n h b
+  pub block-sound : (d n at : ℕ) (h : Head) (b : Block) → Bytes (h .body) → blockAt ln d n at (h .tag) (h .body) ≡ got b → BlockSpelled d n h b
   unfolding blockAt begun spellBlock
   block-sound d n at h b B e = let a = bind-inv _ _ e in go (a .0) (tagOf-sound at (h .tag) (a .0) (a .1)) (a .2)
     where
@@ -124,7 +124,7 @@ module _ (ln : ℕ) where
         many = omega (arith, g .many, r .many);
       })
 
-  walk-sound : (f : ℕ) → Sound (walk ln f)
+  pub walk-sound : (f : ℕ) → Sound (walk ln f)
   unfolding walk spell Good depth leaves
   walk-sound zero d n at s F B e = refused-got e
   walk-sound (suc f) d n at [] F B e = let q : end ≡ F = cc in rw (← q) (record { spells = refl; good = tt; deep = omega arith; many = omega arith })

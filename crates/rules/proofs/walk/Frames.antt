@@ -23,7 +23,7 @@ nil-of-length : {A : Type 0} (s : List A) → length s ≡ 0 → s ≡ []
 nil-of-length [] e = refl
 nil-of-length (x ∷ s) e = absurd (omega arith)
 
-frame-sound : (ln : ℕ) (l : List ℕ) (h : Head) → Bytes l → header ln 0 l ≡ got h → eqb (length (h .rest)) 0 ≡ true → (block (h .tag) (h .body) ≡ l) × Bytes (h .body)
+pub frame-sound : (ln : ℕ) (l : List ℕ) (h : Head) → Bytes l → header ln 0 l ≡ got h → eqb (length (h .rest)) 0 ≡ true → (block (h .tag) (h .body) ≡ l) × Bytes (h .body)
 frame-sound ln l h B e z =
     let s = header-sound ln 0 l h B e in
     let n : h .rest ≡ [] = nil-of-length (h .rest) (eqb-true (length (h .rest)) 0 z) in
@@ -46,11 +46,11 @@ unfolding fixedIn
 fixedIn-got ln L W a e = test-got _ _ _ _ refl ∙ fixed-got ln 0 L W true a refl e
 
 -- ---- sound
-abbrev code : Frame → ℕ
+abbrev pub code : Frame → ℕ
 code aRow = row .tag
 code aCondition = conditionTag
 
-frameOf-sound : (ln t : ℕ) (x : Frame) → frameOf ln t ≡ got x → code x ≡ t
+pub frameOf-sound : (ln t : ℕ) (x : Frame) → frameOf ln t ≡ got x → code x ≡ t
 unfolding frameOf
 frameOf-sound ln t x e = go (eqb t (row .tag)) (eqb t conditionTag) refl refl e
   where
@@ -78,13 +78,21 @@ ship-tag ln l v e =
     let b = test-inv _ _ _ _ _ (a .2) in
     header-tag ln 0 l (a .0) (a .1) ∙ eqb-true _ _ (b .0)
 
+pub ship-sound : (ln : ℕ) (l : List ℕ) (v : Ship) → Bytes l → shipFrame ln l ≡ got v → (spellBlock ship v ≡ l) × (ok ship v ≡ true)
+unfolding shipFrame spellBlock
+ship-sound ln l v B e =
+    let h = bind-inv _ _ e in
+    let a = test-inv _ _ _ _ _ (h .2) in
+    let f = fixedIn-sound ln ship ship-lawful l (h .0) v B (h .1) (a .1) in
+    (ap (λ z. block z (spellValues (ship .fields) (ship .listed v))) (sym (eqb-true _ _ (a .0))) ∙ f .0, f .1)
+
 closed-sound : (ln : ℕ) (ls : List (List ℕ)) (u : Unit {0}) → closed ln ls ≡ got u → ls ≡ []
 unfolding closed
 closed-sound ln [] u e = refl
 closed-sound ln (l ∷ ls) u e = refused-got (bind-inv _ _ e .2)
 
 -- What one frame after the ship's tells, k rows being before it, the last with W = p.
-abbrev FrameSpelled : ℕ → ℕ → List ℕ → Found → Type 0
+abbrev pub FrameSpelled : ℕ → ℕ → List ℕ → Found → Type 0
 FrameSpelled k p l (tableRow v) = (spellBlock row v ≡ l) × (ok row v ≡ true) × (p < v .mass) × (k < mostRows)
 FrameSpelled k p l (theCondition c) = (block conditionTag (spellCondition c) ≡ l) × ConditionLimits c × (fewestRows ≤ k)
 
@@ -120,7 +128,7 @@ found-sound ln k p l h aCondition f B eh ct e =
     let q : theCondition (c .0) ≡ f = cc in
     rw (← q) (ap₂ block ct (i .0) ∙ s .0, i .1, leb-true fewestRows k (a .0))
 
-frameAt-sound : (ln k p : ℕ) (l : List ℕ) (f : Found) → Bytes l → frameAt ln k p l ≡ got f → FrameSpelled k p l f
+pub frameAt-sound : (ln k p : ℕ) (l : List ℕ) (f : Found) → Bytes l → frameAt ln k p l ≡ got f → FrameSpelled k p l f
 unfolding frameAt
 frameAt-sound ln k p l f B e =
     let a = bind-inv _ _ e in
@@ -156,24 +164,15 @@ pub record Framed (r : Reading) (ls : List (List ℕ)) : Type 0 where
   pub loaded : ConditionLimits (r .condition)
 
 pub readFrames-sound : (ls : List (List ℕ)) (r : Reading) → Lines ls → readFrames ls ≡ got r → Framed r ls
-unfolding readFrames shipFrame frames spellBlock Lines
+unfolding readFrames frames Lines
 readFrames-sound [] r B e = refused-got e
 readFrames-sound (l ∷ ls) r B e =
     let v = bind-inv _ _ e in
     let x = bind-inv _ _ (v .2) in
-    let h = bind-inv _ _ (v .1) in
-    let a = test-inv _ _ _ _ _ (h .2) in
-    let f = fixedIn-sound 1 ship ship-lawful l (h .0) (v .0) (B .1) (h .1) (a .1) in
+    let f = ship-sound 1 l (v .0) (B .1) (v .1) in
     let s = tail-sound ls (B .2) 2 0 0 (x .0) (x .1) in
     let q : _≡_ {A = Reading} (record { ship = v .0; rows = x .0 .rows; condition = x .0 .condition }) r = cc in
-    rw (← q) (record {
-      spells = ap₂ _∷_ (ap (λ z. block z (spellValues (ship .fields) (ship .listed (v .0)))) (sym (eqb-true _ _ (a .0))) ∙ f .0) (s .spells);
-      hull = f .1;
-      rising = s .rising;
-      few = omega (arith, s .few);
-      many = omega (arith, s .many);
-      loaded = s .loaded;
-    })
+    rw (← q) (record { spells = ap₂ _∷_ (f .0) (s .spells); hull = f .1; rising = s .rising; few = omega (arith, s .few); many = omega (arith, s .many); loaded = s .loaded })
 
 -- ---- complete
 -- The ship's frame, a row's and the condition's, where they are within their limits.

@@ -9,7 +9,7 @@ use Rattle.rules.specs.Layout.{end, leaf, group, leaves}
 use Rattle.rules.specs.Outcome.{got, _>>=_}
 use Rattle.rules.specs.Walk.{Head, header, Block, one, nest, blockAt, Walk, step, walk, entries}
 use Rattle.rules.proofs.walk.Outcome.{bind-got, bind-cong}
-use Rattle.rules.proofs.walk.Heads.{length-block, header-got, header-less}
+use Rattle.rules.proofs.walk.Heads.{length-block, header-got, header-splits}
 
 -- Two walks that agree on what is shorter than m.
 abbrev Same : ℕ → Walk → Walk → Type 0
@@ -29,7 +29,7 @@ walk-same ln (suc f) zero m a b d n at s l = absurd (omega arith)
 walk-same ln (suc f) (suc g) m a b d n at [] l = refl
 walk-same ln (suc f) (suc g) m a b d n at (x ∷ s) l =
     bind-cong _ _ _ (λ h eh. bind-cong _ _ _ (λ t et.
-    let p = header-less ln at (x ∷ s) h eh in
+    let p = header-splits ln at (x ∷ s) h eh in
     step-same ln (m - 1) (walk ln f) (walk ln g) (walk-same ln f g (m - 1) (omega arith) (omega arith)) d n at h t (omega arith) (omega arith)))
 
 module _ (ln d n at : ℕ) where
@@ -42,7 +42,7 @@ module _ (ln d n at : ℕ) where
   entries-some [] l = absurd (omega arith)
   entries-some (x ∷ s) l =
       bind-cong _ _ _ (λ h eh. bind-cong _ _ _ (λ b eb.
-      let p = header-less ln at (x ∷ s) h eh in
+      let p = header-splits ln at (x ∷ s) h eh in
       step-same ln (suc (length s)) (walk ln (suc (length s))) (entries ln) (λ d n at s′ l. walk-same ln (suc (length s)) (suc (length s′)) (suc (length s′)) (omega arith) (omega arith) d n at s′ (omega arith)) d n at h b (omega arith) (omega arith)))
 
   -- At a block that is spelled.

@@ -65,17 +65,18 @@ module _ (ln at : ℕ) where
       let q : _≡_ {A = Head} (record { tag = t; body = take n s; rest = drop n s }) h = cc in
       ap (λ x. x .tag) q
 
-  -- What a block holds, and what is left after it, is shorter by three.
-  pub header-less : (s : List ℕ) (h : Head) → header ln at s ≡ got h → (length (h .body) + 3 ≤ length s) × (length (h .rest) + 3 ≤ length s)
+  -- What a block holds, and what is left after it, is all but its head.
+  pub header-splits : (s : List ℕ) (h : Head) → header ln at s ≡ got h → length (h .body) + length (h .rest) + 3 ≡ length s
   unfolding header
-  header-less [] h e = refused-got e
-  header-less (t ∷ []) h e = refused-got e
-  header-less (t ∷ a ∷ []) h e = refused-got e
-  header-less (t ∷ a ∷ b ∷ s) h e =
+  header-splits [] h e = refused-got e
+  header-splits (t ∷ []) h e = refused-got e
+  header-splits (t ∷ a ∷ []) h e = refused-got e
+  header-splits (t ∷ a ∷ b ∷ s) h e =
       let n : ℕ = num (a ∷ b ∷ []) in
       let i = test-inv (leb n (length s)) 2 ln at _ e in
       let q : _≡_ {A = Head} (record { tag = t; body = take n s; rest = drop n s }) h = cc in
-      rw (← q) (rw (length-take n s) (omega arith), rw (length-drop n s) (omega arith))
+      let l = leb-true n (length s) (i .0) in
+      rw (← q) (rw (length-take n s, length-drop n s) (omega arith))
 
   -- ---- a block of fixed size
   module _ {A : Type 0} (L : Layout A) (W : Lawful L) (room : Bool) where

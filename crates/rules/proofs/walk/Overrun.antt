@@ -24,6 +24,11 @@ use Rattle.rules.proofs.walk.BlockExits.{entries-short}
 use Rattle.rules.proofs.walk.FrameExits.{inside-short, ship-short, frame-short}
 
 -- ---- among entries
+-- No entries pass.
+pub none-pass : (d n : ℕ) → Passed d n end
+unfolding leaves depth Good
+none-pass d n = record { good = tt; deep = omega arith; many = omega arith }
+
 meets-some : {d n at o : ℕ} {s left : List ℕ} → Meets d n at s o left → 0 < length left → 0 < length s
 meets-some (behind F left P) h = let M = length-append (spell F) left in omega arith
 meets-some (nestedIn F body rest P g m) h = let M = length-append (spell F) (block groupTag body ++ rest) in let N = length-block groupTag body rest in omega arith
@@ -41,7 +46,7 @@ module _ (ln : ℕ) where
       let N = length-append (spell r) s in
       ap (entries ln d n at) (append-assoc (block (entry k .tag) body) (spell r) s)
       ∙ entries-block ln d n at (entry k .tag) body (spell r ++ s) (omega arith) ∙ bind-got _ (entry-passes ln d n at k v (omega (arith, P .many)) (P .good .0))
-      ∙ bind-refused _ (behind-refused r d (n - 1) n′ (at + 3 + length body) at′ s (record { good = P .good .1; deep = P .deep; many = omega (arith, P .many) }) (omega arith) (omega arith) (omega arith) e)
+      ∙ bind-refused _ (behind-refused r d (n - 1) n′ (at + 3 + length body) at′ s (record { good = P .good .1; deep = omega (arith, P .deep); many = omega (arith, P .many) }) (omega arith) (omega arith) (omega arith) e)
   behind-refused (group g r) d n n′ at at′ s P p q l e =
       let L = length-group g r in
       let M = length-append (spell (group g r)) s in
