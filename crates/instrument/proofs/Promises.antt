@@ -1,5 +1,5 @@
 -- What is promised of the instrument, to be read without the proofs: each promise is one theorem with a sentence above it, and its proof stands elsewhere.
--- All are stated of `judge` through its contract, which `judge` is proved to meet (proofs/judge). Their words are defined in the rules' specs/: Answer and Report (what is answered, and its 209 characters), Layout (which texts are allowed), Walk (the reading), Loading (masses and KG); and in specs/Outside (7 and 8).
+-- All are stated of `judge` through its contract, which `judge` is proved to meet (proofs/judge). Their words are defined in the rules' specs/: Answer, Report and Columns (what is answered, its 209 characters, and where each number stands among them), Layout (which texts are allowed), Walk (the reading), Places (where a refusal stands), Leaves and Loading (sums, masses and KG); and in specs/Faults (1 and 2) and Outside (7 and 8).
 use mathlib.Core.Path.{_≡_, refl, sym, _∙_}
 use mathlib.Core.Logic.{_↔_, _≢_}
 use mathlib.Core.List.{List, []}
@@ -17,9 +17,11 @@ use Rattle.rules.specs.Leaves.{sumLeaves, SameSums}
 use Rattle.rules.specs.Curve.{loaded}
 use Rattle.rules.specs.Report.{judgement, noJudgement, report, reportLength}
 use Rattle.rules.specs.Columns.{figureIn}
+use Rattle.rules.specs.Places.{Placed}
 use Rattle.rules.specs.Answer.{answered, reportOf, number, written}
 use Rattle.rules.proofs.bench.Bench.{P1}
 use Rattle.rules.proofs.bench.Regrouped.{regrouped, asOne, asGroup, reads-as, same-sums, two-texts}
+use Rattle.instrument.specs.Faults.{NoLineAt, OverrunAt}
 use Rattle.instrument.specs.Outside.{Outside, TooHigh, Neither}
 use Rattle.instrument.proofs.judge.Reads as judge
 use Rattle.instrument.proofs.Replies as replies
@@ -62,6 +64,18 @@ module _ (text before : List ℕ) (n : ℕ) (after : List ℕ) (run : Judges tex
     -- A reading that is refused for its mass or its KG gets 7 or 8, and its report has line 0 and offset 0, verdicts 3 and figures 0.
     pub refusal-reported-7-8 : (r : Reading) → read text ≡ got r → (m : ℕ) → weighed r ≡ refused m 0 0 → (n ≡ m) × (take reportLength after ≡ report m 0 0 noJudgement)
     refusal-reported-7-8 = replies.weighing-sent text before n after (settled .0) (settled .1) room
+
+    -- Every refusal says where: for a number above 0 the report has that number, a line and an offset, and they lie within the text as document 01 has it.
+    pub refusal-placed : 1 ≤ n → (l : ℕ) × (o : ℕ) × (take reportLength after ≡ report n l o noJudgement) × Placed text n l o
+    refusal-placed = replies.placed-sent text before n after (settled .0) (settled .1) room
+
+    -- The number is 1 exactly when the text is over 12,000 characters, and then the report has line 0, or has within them a line that is none, and then the report has the first such line.
+    pub one-iff-no-line : (n ≡ 1) ↔ ((l : ℕ) × NoLineAt text l × (take reportLength after ≡ report 1 l 0 noJudgement))
+    one-iff-no-line = replies.no-line-sent text before n after (settled .0) (settled .1) room
+
+    -- The number is 2 exactly when the text is lines, within 12,000 characters, in which a block is met that runs past its parent; and the report has that block's line and offset.
+    pub two-iff-overrun : (n ≡ 2) ↔ ((l : ℕ) × (o : ℕ) × OverrunAt text l o × (take reportLength after ≡ report 2 l o noJudgement))
+    two-iff-overrun = replies.overrun-sent text before n after (settled .0) (settled .1) room
 
     -- ---- demand 2: the figures are those of the reading
     -- For a text that is read and within the table and the KG, the verdicts and figures reported are those that document 01 gives for its reading.

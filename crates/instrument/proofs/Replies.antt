@@ -5,6 +5,7 @@ use mathlib.Core.List.{List, map}
 use mathlib.Core.Logic.{_↔_, _≢_, inl, inr, ⊎-elim}
 use Prim.Native.Nat.{ℕ, _+_, _*_, _≤_, _<_}
 use native.Mathlib.Omega.{arith}
+use native.Mathlib.Decide.{decLe}
 use lib.Dec.{leb}
 use lib.IntN.{pos}
 use lib.ListN.{length, take, drop, getD}
@@ -13,39 +14,40 @@ use borrow.Author.Tests.{leb-true, leb-false}
 use Rattle.rules.specs.Rounding.{ceil}
 use Rattle.rules.specs.Numbers.{digits, twos}
 use Rattle.rules.specs.Text.{hex}
-use Rattle.rules.specs.Layout.{Reading, Allowed}
+use Rattle.rules.specs.Layout.{Reading, Allowed, mostCharacters}
 use Rattle.rules.specs.Outcome.{Ans, refused, got, test, _>>_}
 use Rattle.rules.specs.Walk.{read}
 use Rattle.rules.specs.Leaves.{sumLeaves, SameSums}
 use Rattle.rules.specs.Columns.{figureIn}
+use Rattle.rules.specs.Places.{Placed}
 use Rattle.rules.specs.Loading.{mass, moment, freeSurface, weighed, inTable, displacement, correctedKG, firstMass, lastMass, greatestKG, entriesOf}
 use Rattle.rules.specs.Curve.{Loaded, loaded}
 use Rattle.rules.specs.Report.{verdictNumber, Judgement, judgement, noJudgement, report, reportLength}
 use Rattle.rules.specs.Answer.{judged, answered, numberOf, reportOf, number, written}
-use Rattle.rules.proofs.answer.Steps.{answered-refused, answered-read, judged-refused, judged-weighed, report-refused, report-judged, number-short, written-short, number-room, written-room}
+use Rattle.rules.proofs.answer.Steps.{weighed-steps, answered-refused, answered-read, judged-refused, judged-weighed, report-refused, report-judged, number-short, written-short, number-room, written-room}
 use Rattle.rules.proofs.walk.Outcome.{test-got, test-refused}
 use Rattle.rules.proofs.walk.WholeText.{sound, complete}
 use Rattle.rules.proofs.walk.Refusals.{number-of-refusal}
+use Rattle.rules.proofs.walk.BadLine.{one-no-line, one-too-long, lines-unless-one}
+use Rattle.rules.proofs.walk.OnlyOverrun.{two-overrun}
+use Rattle.rules.proofs.answer.Placed.{place-within}
 use Rattle.rules.proofs.answer.Length.{report-length}
 use Rattle.rules.proofs.answer.Columns.{column-front, figure-column}
 use Rattle.rules.proofs.loading.Sums.{displacement-leaves, correctedKG-leaves, judged-by-sums}
+use Rattle.instrument.specs.Faults.{NoLineAt, OverrunAt}
 use Rattle.instrument.specs.Outside.{Outside, Inside, TooHigh, Neither}
 
 -- ---- 7, 8 or neither
 module _ (r : Reading) where
-  weighed-steps : weighed r ≡ (test (inTable (r .rows) (displacement (entriesOf r))) 7 0 0 >> test (leb (correctedKG (entriesOf r)) greatestKG) 8 0 0)
-  unfolding weighed
-  weighed-steps = refl
-
   table-steps : inTable (r .rows) (displacement (entriesOf r)) ≡ (leb (firstMass (r .rows)) (displacement (entriesOf r)) && leb (displacement (entriesOf r)) (lastMass (r .rows)))
   unfolding inTable
   table-steps = refl
 
   off : inTable (r .rows) (displacement (entriesOf r)) ≡ false → weighed r ≡ refused 7 0 0
-  off e = weighed-steps ∙ test-refused 7 0 0 _ e
+  off e = weighed-steps r ∙ test-refused 7 0 0 _ e
 
   on : inTable (r .rows) (displacement (entriesOf r)) ≡ true → (c : Bool) → leb (correctedKG (entriesOf r)) greatestKG ≡ c → weighed r ≡ test c 8 0 0
-  on e c p = weighed-steps ∙ test-got 7 0 0 _ e ∙ ap (λ (b : Bool). test b 8 0 0) p
+  on e c p = weighed-steps r ∙ test-got 7 0 0 _ e ∙ ap (λ (b : Bool). test b 8 0 0) p
 
   weighed-cases : {X : Type 0} → (Outside r → weighed r ≡ refused 7 0 0 → X) → (TooHigh r → weighed r ≡ refused 8 0 0 → X) → (Neither r → weighed r ≡ got tt → X) → X
   unfolding test
@@ -122,13 +124,15 @@ module _ (t before : List ℕ) (n : ℕ) (after : List ℕ) (N : n ≡ number t 
     pub room : (n ≤ 8) × (take reportLength after ≡ reportOf (answered t)) × (drop reportLength after ≡ drop reportLength before)
     room = (omega (arith, numbered, number-to-8 t), front, back)
 
-    pub refusal-sent : (m l o : ℕ) → read t ≡ refused m l o → (n ≡ m) × (take reportLength after ≡ report m l o noJudgement)
+    answer-sent : (m l o : ℕ) → answered t ≡ refused m l o → (n ≡ m) × (take reportLength after ≡ report m l o noJudgement)
     unfolding report
-    refusal-sent m l o e = let a = answered-refused t e in (numbered ∙ ap numberOf a, front ∙ ap reportOf a ∙ report-refused m l o)
+    answer-sent m l o a = (numbered ∙ ap numberOf a, front ∙ ap reportOf a ∙ report-refused m l o)
+
+    pub refusal-sent : (m l o : ℕ) → read t ≡ refused m l o → (n ≡ m) × (take reportLength after ≡ report m l o noJudgement)
+    refusal-sent m l o e = answer-sent m l o (answered-refused t e)
 
     pub weighing-sent : (r : Reading) → read t ≡ got r → (m : ℕ) → weighed r ≡ refused m 0 0 → (n ≡ m) × (take reportLength after ≡ report m 0 0 noJudgement)
-    unfolding report
-    weighing-sent r e m w = let a = off-answer t r e w in (numbered ∙ ap numberOf a, front ∙ ap reportOf a ∙ report-refused m 0 0)
+    weighing-sent r e m w = answer-sent m 0 0 (off-answer t r e w)
 
     pub judgement-sent : (r : Reading) → read t ≡ got r → weighed r ≡ got tt → (n ≡ 0) × (take reportLength after ≡ report 0 0 0 (judgement (loaded r)))
     unfolding report
@@ -169,6 +173,47 @@ module _ (t before : List ℕ) (n : ℕ) (after : List ℕ) (N : n ≡ number t 
 
     read-by : {X : Type 0} (r : Reading) → read t ≡ got r → (Outside r → n ≡ 7 → X) → (TooHigh r → n ≡ 8 → X) → (Neither r → n ≡ 0 → X) → X
     read-by r e f g k = weighed-cases r (λ O w. f O (weighing-sent r e 7 w .0)) (λ T w. g T (weighing-sent r e 8 w .0)) (λ T w. k T (judgement-sent r e w .0))
+
+    -- ---- where a refusal stands
+    pub placed-sent : 1 ≤ n → (l : ℕ) × (o : ℕ) × (take reportLength after ≡ report n l o noJudgement) × Placed t n l o
+    placed-sent some = go (answered t) refl
+      where
+        go : (a : Ans Judgement) → answered t ≡ a → (l : ℕ) × (o : ℕ) × (take reportLength after ≡ report n l o noJudgement) × Placed t n l o
+        go (refused m l o) e = let s = answer-sent m l o e in (l, o, rw (s .0) (s .1), rw (s .0) (place-within t m l o e))
+        go (got j) e = absurd (omega (arith, numbered ∙ ap numberOf e))
+
+    -- A number from 1 to 6 is that of a refusal by the reading.
+    by-refusal : {X : Type 0} → 1 ≤ n → n ≤ 6 → ((l o : ℕ) → read t ≡ refused n l o → take reportLength after ≡ report n l o noJudgement → X) → X
+    by-refusal some few f =
+        by-reading t
+        (λ m l o e. let s = refusal-sent m l o e in f l o (rw (s .0) e) (rw (s .0) (s .1)))
+        (λ r e. read-by r e (λ _ q. absurd (omega arith)) (λ _ q. absurd (omega arith)) (λ _ q. absurd (omega arith)))
+
+    pub overrun-sent : (n ≡ 2) ↔ ((l : ℕ) × (o : ℕ) × OverrunAt t l o × (take reportLength after ≡ report 2 l o noJudgement))
+    overrun-sent = (
+      λ z. by-refusal (omega arith) (omega arith) (λ l o e s. (l, o, found l o (rw z at e), rw z at s)),
+      λ x. let v = x .2 in refusal-sent 2 (x .0) (x .1) (rw (v .2) at (two-overrun (v .0) (v .1) (rw (v .2) (v .3)) (x .0) (x .1) .1 (v .4, v .5, v .6))) .0,
+    )
+      where
+        found : (l o : ℕ) → read t ≡ refused 2 l o → OverrunAt t l o
+        found l o e =
+            let f = lines-unless-one t 2 l o e (λ z. omega arith) in
+            let m = two-overrun (f .0) (f .1) (rw (f .2) (f .3)) l o .0 (rw (f .2) e) in
+            (f .0, f .1, f .2, f .3, m .0, m .1, m .2)
+
+    pub no-line-sent : (n ≡ 1) ↔ ((l : ℕ) × NoLineAt t l × (take reportLength after ≡ report 1 l 0 noJudgement))
+    no-line-sent = (
+      λ z. by-refusal (omega arith) (omega arith) (λ l o e s. found l o (decLe (length t) mostCharacters) (rw z at e) (rw z at s)),
+      λ x. ⊎-elim (λ v. refusal-sent 1 0 0 (one-too-long t .1 (v .0)) .0) (λ v. refusal-sent 1 (x .0) 0 (one-no-line t (v .0) (x .0) 0 .1 (refl, v .1)) .0) (x .1),
+    )
+      where
+        found : (l o : ℕ) → Dec (length t ≤ mostCharacters) → read t ≡ refused 1 l o → take reportLength after ≡ report 1 l o noJudgement → (l : ℕ) × NoLineAt t l × (take reportLength after ≡ report 1 l 0 noJudgement)
+        found l o (yes short) e s = let m = one-no-line t short l o .0 e in (l, inr (short, m .1), rw (m .0) at s)
+        found l o (no long) e s =
+            let q = one-too-long t .1 (let k : mostCharacters < length t = omega arith in k) in
+            let u : l ≡ 0 = cc in
+            let w : o ≡ 0 = cc in
+            (l, inl (omega arith, u), rw w at s)
 
     pub unrefused : ((¬ ((1 ≤ n) × (n ≤ 6))) × (n ≢ 9)) ↔ Allowed t
     unrefused = (
