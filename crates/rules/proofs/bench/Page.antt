@@ -7,7 +7,8 @@ use lib.IntN.{ℤ, pos, negℤ}
 use lib.ListN.{length, getD, replicate}
 use Rattle.rules.specs.Rounding.{Point, point}
 use Rattle.rules.specs.Text.{LF, digit}
-use Rattle.rules.specs.Curve.{Loaded, sines, lever, leverZ, y, area}
+use Rattle.rules.specs.Blocks.{Row}
+use Rattle.rules.specs.Curve.{knAt, Loaded, loaded, sines, lever, leverZ, y, area}
 use Rattle.rules.specs.Criteria.{area1, area2, area3, greatestLever, angleOfGreatest, gm, lw1, lw2, units}
 use Rattle.rules.specs.Roll.{b, C, q, period, X1, X2, K, S, keelIndex, farthest, outsideRange, notJudged}
 use Rattle.rules.specs.Report.{fail, pass, unjudged, void, verdictNumber, judgement, reportTag, reportLength}
@@ -33,6 +34,17 @@ sines-printed = (refl, refl)
 pub report-printed : (LF ≡ 10) × (map digit (0 ∷ 9 ∷ 10 ∷ 15 ∷ []) ≡ 48 ∷ 57 ∷ 65 ∷ 70 ∷ []) × (map verdictNumber (fail ∷ pass ∷ unjudged ∷ void ∷ []) ≡ 0 ∷ 1 ∷ 2 ∷ 3 ∷ []) × (reportTag ≡ 0xD1) × (reportLength ≡ 209)
 unfolding digit
 report-printed = (refl, refl, refl, refl, refl)
+
+-- 'Thirteen KN values, at 0, 5, .. 60°', each by its own station: 'on a row, that row', and half way between two rows, rounded down.
+abbrev aRow : ℕ → List ℕ → Row
+aRow w kn = record { mass = w; draught = 0; km = 0; kn = kn }
+
+abbrev twoRows : List Row
+twoRows = aRow 10 (0 ∷ 1 ∷ 2 ∷ 3 ∷ 4 ∷ 5 ∷ 6 ∷ 7 ∷ 8 ∷ 9 ∷ 10 ∷ 11 ∷ 12 ∷ []) ∷ aRow 20 (0 ∷ 2 ∷ 5 ∷ 8 ∷ 11 ∷ 14 ∷ 17 ∷ 20 ∷ 23 ∷ 26 ∷ 29 ∷ 32 ∷ 35 ∷ []) ∷ []
+
+pub stations-printed : (knAt twoRows 10 ≡ 0 ∷ 1 ∷ 2 ∷ 3 ∷ 4 ∷ 5 ∷ 6 ∷ 7 ∷ 8 ∷ 9 ∷ 10 ∷ 11 ∷ 12 ∷ []) × (knAt twoRows 15 ≡ 0 ∷ 1 ∷ 3 ∷ 5 ∷ 7 ∷ 9 ∷ 11 ∷ 13 ∷ 15 ∷ 17 ∷ 19 ∷ 21 ∷ 23 ∷ [])
+unfolding loaded
+stations-printed = (refl, refl)
 
 -- ---- worked values
 -- A ship of which only what is asked matters: L, B, d, KM, KG, the KN values and E.
