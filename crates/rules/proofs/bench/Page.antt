@@ -9,7 +9,7 @@ use Rattle.rules.specs.Rounding.{Point, point}
 use Rattle.rules.specs.Text.{LF, digit}
 use Rattle.rules.specs.Blocks.{Row}
 use Rattle.rules.specs.Curve.{knAt, Loaded, loaded, sines, lever, leverZ, y, area}
-use Rattle.rules.specs.Criteria.{area1, area2, area3, greatestLever, angleOfGreatest, gm, lw1, lw2, units}
+use Rattle.rules.specs.Criteria.{area1, area2, area3, greatestLever, angleOfGreatest, gm, lw1, lw2, units, phi0Figure}
 use Rattle.rules.specs.Roll.{b, C, q, period, X1, X2, K, S, keelIndex, farthest, outsideRange, notJudged}
 use Rattle.rules.specs.Report.{fail, pass, unjudged, void, verdictNumber, judgement, reportTag, reportLength}
 use Rattle.rules.proofs.bench.Cases.{Case, gives, All}
@@ -88,6 +88,8 @@ page =
     ∷ gives (gm (afloat 0 1 1 7 3 [] 0) ∷ gm (afloat 0 1 1 3 7 [] 0) ∷ []) (pos 4 ∷ negℤ (pos 4) ∷ [])
     -- 'lw1 = 5040 x wind area x Z / (981 x W) .. lw2 = 3 lw1 / 2': of 981, 100,000 and 5,040.
     ∷ gives (pos (lw1 (curved [] 0)) ∷ pos (lw2 (curved [] 0)) ∷ []) (pos 100_000 ∷ pos 150_000 ∷ [])
+    -- 'phi0 = first t in 0..E with y >= lw1 .. None: .. phi0 is -1': a lever of 100 m from 5 degrees on, E there, one tenth before, and a lever of one metre.
+    ∷ gives (phi0Figure (curved (0 ∷ 100_000 ∷ 100_000 ∷ []) 50) ∷ phi0Figure (curved (0 ∷ 100_000 ∷ 100_000 ∷ []) 49) ∷ phi0Figure (curved flat 600) ∷ []) (pos 50 ∷ negℤ (pos 1) ∷ negℤ (pos 1) ∷ [])
     -- 'b = 1000 B/d, down. C = 373,000 + 23 b - (43 L/100, up)': B/d of 1/1000 at L 100 and 101.
     ∷ gives (map (λ L. pos (C (afloat L 1 1_000 0 0 [] 0))) (100 ∷ 101 ∷ [])) (pos 372_980 ∷ pos 372_979 ∷ [])
     ∷ gives (pos (b (afloat 0 10_001 10_000 0 0 [] 0)) ∷ []) (pos 1_000 ∷ [])
@@ -102,7 +104,7 @@ page =
 
 pub page-holds : All page
 unfolding judgement
-page-holds = (refl, (refl, (refl, (refl, (refl, (refl, (refl, (refl, (refl, (refl, (refl, (refl, (refl, (refl, (refl, (refl, tt))))))))))))))))
+page-holds = (refl, (refl, (refl, (refl, (refl, (refl, (refl, (refl, (refl, (refl, (refl, (refl, (refl, (refl, (refl, (refl, (refl, tt)))))))))))))))))
 
 -- 'Not judged (2) if GM <= 0, 10 B >= 35 d, KG outside 7d/10..15d/10 (ends judged), or n >= 2000': each at its edge.
 pub range-printed : map (λ c. outsideRange c) (afloat 0 1 1_000 1_000 1_000 [] 0 ∷ afloat 0 1 1_000 1_001 1_000 [] 0 ∷ afloat 0 3_500 1_000 1_001 1_000 [] 0 ∷ afloat 0 3_499 1_000 1_001 1_000 [] 0
