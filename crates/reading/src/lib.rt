@@ -63,17 +63,6 @@ fn blank_table() -> book::Table
     }
 }
 
-fn with_row(table: book::Table, row: book::Row) -> book::Table
-    requires { ⌜ table .count < mostRows ⌝ }
-    ensures { λ r. ⌜ r ≡ withRow table row ⌝ }
-{
-    let mut t = table;
-    let k = t.count;
-    t.rows[k] = row;
-    t.count = k + 1;
-    t
-}
-
 fn refused(r: book::Refusal) -> TextRead
     ensures { λ t. ⌜ t ≡ refusedRead r ⌝ }
 {
@@ -209,7 +198,8 @@ pub fn read_text(text: &[u8]) -> TextRead
                 state = m.state;
                 if m.adds {
                     let row = m.row;
-                    table = with_row(table, row);
+                    table.rows[rows] = row;
+                    table.count = rows + 1;
                 }
             }
         }
