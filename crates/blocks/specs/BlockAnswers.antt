@@ -1,6 +1,6 @@
 -- What the code answers at a block, from what the rules answer: the values as plain data, or the refusal with its place.
 use mathlib.Core.Bool.{cond}
-use Prim.Native.Nat.{ℕ, _*_}
+use Prim.Native.Nat.{_*_}
 use lib.ListN.{length}
 use Rattle.rules.specs.Blocks as rules
 use Rattle.rules.specs.Loading.{massOf, centreOf, freeSurfaceOf}

@@ -1,13 +1,12 @@
 // A whole text: line after line into one buffer, and each frame as it comes. Every character is looked at once.
 ghost use mathlib.Core.Path.{_≡_};
 ghost use mathlib.Core.List.{[]};
-ghost use Prim.Native.Nat.{_≤_, _<_};
+ghost use Prim.Native.Nat.{_≤_};
 ghost use Rattle.rules.specs.Walk.{header, read};
-ghost use Rattle.rules.specs.Layout.{mostRows};
 ghost use Rattle.book.specs.Book.{tableOf};
 ghost use Rattle.cursor.specs.BlockParts.{headOf};
 ghost use Rattle.reading.specs.TextAnswers.{told, refusedRead};
-ghost use Rattle.reading.specs.Moved.{rowless, afterShip, afterFound, afterWhole, moved, withRow, finished};
+ghost use Rattle.reading.specs.Moved.{rowless, afterShip, afterFound, afterWhole, moved, finished};
 use blocks::refusal;
 use blocks::ship::ShipRead;
 use cursor::Head;
