@@ -99,6 +99,7 @@ fn entries(s: &[u8], line: usize, at: usize, depth: u64, t: book::Sums) -> LoadR
         Block::Entry(e) => return entries(rest, line, rest_at, depth, add(t, e)),
         Block::Group => {}
     }
+    // A group: what is inside it, and then what stands after it.
     let body_at = cursor::onward(at, Part::Body, len);
     let inner = entries(body, line, body_at, depth - 1, t);
     let LoadRead::Sum(u) = inner else {

@@ -1,5 +1,6 @@
 -- `condition_in` meets its contract: alone on its line, no longer than 4,096, and what is inside: 3, 5.
 use mathlib.Core.Path.{ap, sym, _∙_}
+use native.Mathlib.Omega.{arith}
 use borrow.Author.Needs.{needs}
 use denote.Ref.{now}
 use Rattle.rules.proofs.walk.FrameExits.{condition-longer, condition-over, condition-whole}
@@ -17,7 +18,7 @@ returns : tie.Need-returns
 returns c =
     let i = c .before in
     let s = i .before .before in
-    rw (c .refusal .ensures) (sym (ap conditionFound (condition-longer _ 0xA3 _ (now (s .args .s)) (s .pre) (i .if1 .taken))))
+    rw (c .refusal .ensures) (sym (ap conditionFound (condition-longer _ 0xA3 (s .args .len) (now (s .args .s)) (s .pre) (λ e. omega arith))))
 
 refusal-requires-2 : tie.Need-refusal-requires-2
 refusal-requires-2 c κs = search needs
@@ -26,7 +27,7 @@ returns-2 : tie.Need-returns-2
 returns-2 c =
     let i = c .before in
     let s = i .before .before .before in
-    rw (c .refusal2 .ensures) (sym (ap conditionFound (condition-over _ 0xA3 _ (now (s .args .s)) (s .pre) (i .before .if1 .left) (i .if2 .taken))))
+    rw (c .refusal2 .ensures) (sym (ap conditionFound (condition-over _ 0xA3 (s .args .len) (now (s .args .s)) (s .pre) (omega arith) (i .if2 .taken))))
 
 inside-requires : tie.Need-inside-requires
 inside-requires c κs = search needs
@@ -35,7 +36,7 @@ returns-3 : tie.Need-returns-3
 returns-3 c =
     let i = c .before in
     let s = i .before .before .before in
-    c .inside .ensures ∙ sym (ap conditionFound (condition-whole _ 0xA3 _ (now (s .args .s)) (s .pre) (i .before .if1 .left) (i .if2 .left)))
+    c .inside .ensures ∙ sym (ap conditionFound (condition-whole _ 0xA3 (s .args .len) (now (s .args .s)) (s .pre) (omega arith) (i .if2 .left)))
 
 pub condition-in-spec : {M : Type 1} → statement M
 condition-in-spec =

@@ -1,5 +1,5 @@
 -- `read_text` meets its contract: what is left of the text, from the state and the table reached so far, comes to what the whole comes to.
-use mathlib.Core.Path.{subst, _≡_, refl, ap, sym, _∙_}
+use mathlib.Core.Path.{subst, _≡_, ap, sym, _∙_}
 use Prim.Native.Nat.{_*_, _≤_, _<_, _+_}
 use native.Mathlib.Omega.{arith}
 use lib.Seq.{length-take-le}
@@ -128,7 +128,7 @@ loop-again c =
     let k = m .before .before in
     let d = leads k in
     let i = k .before .before .before .before .before .loop .inv in
-    (omega (arith, d .within, i .0), omega (arith, i .1), i .2 ∙ onward-row _ _ _ _ (2 * k .before .l .given .0 .0 + 1) _ (d .lines _) _ (m .moves .ensures) (c .before .if2 .taken) _ refl)
+    (omega (arith, d .within, i .0), omega (arith, i .1), i .2 ∙ onward-row _ _ _ _ (2 * k .before .l .given .0 .0 + 1) _ (d .lines _) _ (m .moves .ensures) (c .before .if2 .taken) _ (omega arith))
 
 loop-less-2 : tie.Need-loop-less-2 Inv-loop μ-loop
 loop-less-2 c = omega (arith, leads (c .before .before .before .before) .within)
