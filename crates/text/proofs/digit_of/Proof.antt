@@ -34,7 +34,7 @@ fits-requires-2 c κs = search needs
 
 sub-t6 : tie.Need-sub-t6
 sub-t6 c =
-    let i = low-enough 65 (c .before .before .before .before .before .args .c) _ (tested 65 70 (c .before .before .before .before .wide .ensures .0) (c .before .fits3 .ensures) (c .if2 .taken)) in
+    let i = low-enough 65 (c .before .before .before .before .before .args .c) _ (tested 65 _ (c .before .before .before .before .wide .ensures .0) (c .before .fits3 .ensures) (c .if2 .taken)) in
     omega arith
 
 add-t7 : tie.Need-add-t7
