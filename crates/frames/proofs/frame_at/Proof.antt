@@ -1,6 +1,7 @@
 -- `frame_at` meets its contract: head, tag, rows so far: 2, 4; then the row or the condition.
 use mathlib.Core.Path.{_≡_, ap, sym, _∙_}
 use Prim.Native.Nat.{ℕ, _+_, _≤_}
+use native.Mathlib.Omega.{arith}
 use lib.ListN.{length}
 use borrow.Author.Needs.{needs}
 use denote.Ref.{now}
@@ -54,7 +55,7 @@ returns-2 : tie.Need-returns-2
 returns-2 c =
     let i = c .before .before in
     let k = i .before .before in
-    c .no-frame2 .ensures ∙ refused-frame _ _ _ _ _ (c .before .refusal .ensures) (frame-many _ _ _ _ _ (len k) (head k .1) (i .before .if1 .taken) (i .if2 .taken))
+    c .no-frame2 .ensures ∙ refused-frame _ _ _ _ _ (c .before .refusal .ensures) (frame-many _ _ _ _ _ (len k) (head k .1) (i .before .if1 .taken) (omega arith))
 
 row-frame-requires : tie.Need-row-frame-requires
 row-frame-requires c κs = head (c .before .before) .0
@@ -63,7 +64,7 @@ returns-3 : tie.Need-returns-3
 returns-3 c =
     let i = c .before in
     let k = i .before .before in
-    c .row-frame .ensures ∙ row-as-frame _ ∙ sym (ap frameRead (frame-row _ _ _ _ _ (len k) (head k .1) (i .before .if1 .taken) (i .if2 .left)))
+    c .row-frame .ensures ∙ row-as-frame _ ∙ sym (ap frameRead (frame-row _ _ _ _ _ (len k) (head k .1) (i .before .if1 .taken) (omega arith)))
 
 refusal-requires-2 : tie.Need-refusal-requires-2
 refusal-requires-2 c κs = search needs
@@ -75,7 +76,7 @@ returns-4 : tie.Need-returns-4
 returns-4 c =
     let i = c .before .before in
     let k = i .before .before .before in
-    c .no-frame3 .ensures ∙ refused-frame _ _ _ _ _ (c .before .refusal2 .ensures) (frame-few _ _ _ _ _ (len k) (head k .1) (i .before .if3 .taken) (i .if4 .taken))
+    c .no-frame3 .ensures ∙ refused-frame _ _ _ _ _ (c .before .refusal2 .ensures) (frame-few _ _ _ _ _ (len k) (head k .1) (i .before .if3 .taken) (omega arith))
 
 condition-in-requires : tie.Need-condition-in-requires
 condition-in-requires c κs = head (c .before .before .before) .0
@@ -88,7 +89,7 @@ returns-5 c =
     let r = c .before in
     let i = r .before in
     let k = i .before .before .before in
-    rw (c .blank-row .ensures, r .condition-in .ensures) (condition-as-frame _ ∙ sym (ap frameRead (frame-condition _ _ _ _ _ (len k) (head k .1) (i .before .if3 .taken) (i .if4 .left))))
+    rw (c .blank-row .ensures, r .condition-in .ensures) (condition-as-frame _ ∙ sym (ap frameRead (frame-condition _ _ _ _ _ (len k) (head k .1) (i .before .if3 .taken) (omega arith))))
 
 refusal-requires-3 : tie.Need-refusal-requires-3
 refusal-requires-3 c κs = search needs

@@ -36,7 +36,9 @@ refused-requires : tie.Need-refused-requires Inv-loop μ-loop
 refused-requires c κs = search needs
 
 returns : tie.Need-returns Inv-loop μ-loop
-returns c = c .refused .ensures ∙ ap refusedRead (c .before .refusal .ensures) ∙ sym (read-long _ (c .before .before .if1 .taken))
+returns c =
+    let x = now (c .before .before .before .before .args .text) in
+    c .refused .ensures ∙ ap refusedRead (c .before .refusal .ensures) ∙ sym (read-long x (omega arith))
 
 blank-table-requires : tie.Need-blank-table-requires Inv-loop μ-loop
 blank-table-requires c κs = search needs
@@ -44,7 +46,7 @@ blank-table-requires c κs = search needs
 loop-holds : tie.Need-loop-holds Inv-loop μ-loop
 loop-holds c =
     let x = now (c .before .before .before .args .text) in
-    (omega arith, omega arith, read-onward x (c .before .if1 .left) ∙ ap (λ t. onward Awaited t 1 x) (sym (c .blank-table .ensures)))
+    (omega arith, omega arith, read-onward x (omega arith) ∙ ap (λ t. onward Awaited t 1 x) (sym (c .blank-table .ensures)))
 
 line-at-requires : tie.Need-line-at-requires Inv-loop μ-loop
 line-at-requires c κs = search needs
