@@ -6,7 +6,7 @@ use Rattle.rules.specs.Blocks as rules
 use Rattle.rules.specs.Layout.{Entries}
 use Rattle.rules.specs.Layout as layout
 use Rattle.rules.specs.Outcome.{Ans, refused, got, _>>=_}
-use Rattle.rules.specs.Walk.{Found, tableRow, theCondition}
+use Rattle.rules.specs.Walk.{Found, theCondition}
 use Rattle.book.specs.Book.{refusal, plainWeather, sumsOf, weatherOf, blankRow, Refuses}
 use Rattle.book.specs.declared.Weather.{Weather}
 use Rattle.book.specs.declared.Refusal.{Refusal}
@@ -16,7 +16,7 @@ use Rattle.blocks.specs.declared.row.RowRead.{RowRead}
 use Rattle.blocks.specs.declared.weather.WeatherRead.{WeatherRead}
 use Rattle.blocks.specs.declared.weather.WeatherRead.the-variants as weather
 use Rattle.frames.specs.Sums.{none}
-use Rattle.frames.specs.FrameAnswers.{loadRead, conditionFound, loaded, rowFrame, frameRead}
+use Rattle.frames.specs.FrameAnswers.{loadRead, conditionFound, loaded, frameRead, rowFrame}
 use Rattle.frames.specs.declared.LoadRead.the-variants.{Sum}
 use Rattle.frames.specs.declared.Found.the-variants as found
 use Rattle.frames.proofs.Adding.{plus-none}
@@ -47,6 +47,7 @@ refused-frame x n l o m p q = rw (p, q)
 
 module _ (m : Ans rules.Row) (r : RowRead) (e : r ≡ rowRead m) where
   pub row-fault : (x f : Refusal) → r .answer ≡ row.Refused x → f ≡ rowFault (r .answer) → frameRead (refused (f .number) (f .line) (f .offset)) ≡ rowFrame m
+  unfolding _>>=_
   row-fault x f q p = rw (p ∙ ap rowFault q) (go m (sym q ∙ ap (λ r. r .answer) e))
     where
       go : (m : Ans rules.Row) → row.Refused x ≡ rowRead m .answer → frameRead (refused (x .number) (x .line) (x .offset)) ≡ rowFrame m
@@ -54,16 +55,12 @@ module _ (m : Ans rules.Row) (r : RowRead) (e : r ≡ rowRead m) where
       go (got v) p = absurd (let z : _≡_ {A = ℕ} 0 1 = cc in omega arith)
 
   pub row-within : r .answer ≡ row.Within → record { found = found.Row; row = r .row } ≡ rowFrame m
+  unfolding _>>=_
   row-within q = rw e (go m (sym q ∙ ap (λ r. r .answer) e))
     where
       go : (m : Ans rules.Row) → row.Within ≡ rowRead m .answer → record { found = found.Row; row = rowRead m .row } ≡ rowFrame m
       go (refused n l o) p = absurd (let z : _≡_ {A = ℕ} 0 1 = cc in omega arith)
       go (got v) p = refl
-
-pub row-as-frame : (m : Ans rules.Row) → rowFrame m ≡ frameRead (m >>= λ v. got (tableRow v))
-unfolding _>>=_
-row-as-frame (refused n l o) = refl
-row-as-frame (got v) = refl
 
 pub condition-as-frame : (m : Ans layout.Condition) → record { found = conditionFound m; row = blankRow } ≡ frameRead (m >>= λ c. got (theCondition c))
 unfolding _>>=_

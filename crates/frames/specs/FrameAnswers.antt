@@ -2,7 +2,7 @@
 use Rattle.rules.specs.Blocks as blocks
 use Rattle.rules.specs.Layout.{Entries}
 use Rattle.rules.specs.Layout as rules
-use Rattle.rules.specs.Outcome.{Ans, refused, got}
+use Rattle.rules.specs.Outcome.{Ans, refused, got, _>>=_}
 use Rattle.rules.specs.Walk as walk
 use Rattle.book.specs.Book.{refusal, plainWeather, sumsOf, plainRow, blankRow}
 use Rattle.book.specs.declared.Refusal.{Refusal}
@@ -39,11 +39,11 @@ loaded w (load.Sum t) = found.Condition (record { weather = w; sums = t })
 loaded w (load.Refused r) = found.Refused r
 
 -- ---- a frame after the ship's: a row beside it, blank where there is none
-abbrev pub rowFrame : Ans blocks.Row → FrameRead
-rowFrame (refused n l o) = record { found = found.Refused (refusal n l o); row = blankRow }
-rowFrame (got r) = record { found = found.Row; row = plainRow r }
-
 abbrev pub frameRead : Ans walk.Found → FrameRead
 frameRead (refused n l o) = record { found = found.Refused (refusal n l o); row = blankRow }
 frameRead (got (walk.tableRow r)) = record { found = found.Row; row = plainRow r }
 frameRead (got (walk.theCondition c)) = record { found = found.Condition (plainCondition c); row = blankRow }
+
+-- A row by itself is such a frame.
+abbrev pub rowFrame : Ans blocks.Row → FrameRead
+rowFrame m = frameRead (m >>= λ v. got (walk.tableRow v))

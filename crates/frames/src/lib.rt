@@ -9,7 +9,7 @@ ghost use Rattle.rules.specs.Walk.{entries, loadAt, inside, conditionIn, shipFr
 ghost use Rattle.rules.specs.Parts.{part, headAt};
 ghost use Rattle.blocks.specs.BlockAnswers.{shipRead};
 ghost use Rattle.frames.specs.Sums.{none, plus, Bounded};
-ghost use Rattle.frames.specs.FrameAnswers.{loadRead, loadFault, conditionFound, loaded, rowFrame, frameRead};
+ghost use Rattle.frames.specs.FrameAnswers.{loadRead, loadFault, conditionFound, loaded, frameRead, rowFrame};
 use blocks::NO_REFUSAL;
 use blocks::entries::Block;
 use blocks::refusal;

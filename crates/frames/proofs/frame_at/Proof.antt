@@ -11,7 +11,7 @@ use Rattle.rules.specs.Parts.{headAt}
 use Rattle.rules.proofs.walk.FrameExits.{frame-short, frame-tag, frame-many, frame-row, frame-few, frame-condition}
 use Rattle.cursor.proofs.Heads.{begins-fault, begins-block}
 use Rattle.frames.specs.FrameAnswers.{frameRead}
-use Rattle.frames.proofs.Frame.{refused-frame, row-as-frame, condition-as-frame}
+use Rattle.frames.proofs.Frame.{refused-frame, condition-as-frame}
 use Rattle.frames.proofs.frame_at.Statement.{statement}
 use Rattle.frames.proofs.frame_at.Tie as tie
 
@@ -64,7 +64,7 @@ returns-3 : tie.Need-returns-3
 returns-3 c =
     let i = c .before in
     let k = i .before .before in
-    c .row-frame .ensures ∙ row-as-frame _ ∙ sym (ap frameRead (frame-row _ _ _ _ _ (len k) (head k .1) (i .before .if1 .taken) (omega arith)))
+    c .row-frame .ensures ∙ sym (ap frameRead (frame-row _ _ _ _ _ (len k) (head k .1) (i .before .if1 .taken) (omega arith)))
 
 refusal-requires-2 : tie.Need-refusal-requires-2
 refusal-requires-2 c κs = search needs
