@@ -5,8 +5,11 @@ use Rattle.blocks.proofs.row.blank_row.Reads as blank-row
 use Rattle.blocks.proofs.header.Reads as header
 use Rattle.blocks.proofs.entries.block_at.Reads as block-at
 use Rattle.blocks.proofs.weather.weather_at.Reads as weather-at
-use Rattle.blocks.proofs.ship.ship_frame.Reads as ship-frame
+use Rattle.blocks.proofs.weather.WeatherRead.fault.Reads as weather-fault
+use Rattle.blocks.proofs.ship.ship_in.Reads as ship-in
+use Rattle.blocks.proofs.ship.ShipRead.fault.Reads as ship-fault
 use Rattle.blocks.proofs.row.row_in.Reads as row-in
+use Rattle.blocks.proofs.row.RowAnswer.fault.Reads as row-fault
 
 pub refusal-one : (κs a r r′ s s′ : _) → refusal.Post κs a r s → refusal.Post κs a r′ s′ → r ≡ r′
 refusal-one κs a r r′ s s′ p q = p ∙ sym q
@@ -23,8 +26,17 @@ block-at-one κs a r r′ s s′ p q = p ∙ sym q
 pub weather-at-one : (κs a r r′ s s′ : _) → weather-at.Post κs a r s → weather-at.Post κs a r′ s′ → r ≡ r′
 weather-at-one κs a r r′ s s′ p q = p ∙ sym q
 
-pub ship-frame-one : (κs a r r′ s s′ : _) → ship-frame.Post κs a r s → ship-frame.Post κs a r′ s′ → r ≡ r′
-ship-frame-one κs a r r′ s s′ p q = p ∙ sym q
+pub weather-fault-one : (κs a r r′ s s′ : _) → weather-fault.Post κs a r s → weather-fault.Post κs a r′ s′ → r ≡ r′
+weather-fault-one κs a r r′ s s′ p q = p ∙ sym q
+
+pub ship-in-one : (κs a r r′ s s′ : _) → ship-in.Post κs a r s → ship-in.Post κs a r′ s′ → r ≡ r′
+ship-in-one κs a r r′ s s′ p q = p ∙ sym q
+
+pub ship-fault-one : (κs a r r′ s s′ : _) → ship-fault.Post κs a r s → ship-fault.Post κs a r′ s′ → r ≡ r′
+ship-fault-one κs a r r′ s s′ p q = p ∙ sym q
 
 pub row-in-one : (κs a r r′ s s′ : _) → row-in.Post κs a r s → row-in.Post κs a r′ s′ → r ≡ r′
 row-in-one κs a r r′ s s′ p q = p ∙ sym q
+
+pub row-fault-one : (κs a r r′ s s′ : _) → row-fault.Post κs a r s → row-fault.Post κs a r′ s′ → r ≡ r′
+row-fault-one κs a r r′ s s′ p q = p ∙ sym q

@@ -1,6 +1,6 @@
 -- What the code answers at a block, from what the rules answer: the values as plain data, or the refusal with its place.
 use mathlib.Core.Bool.{cond}
-use Prim.Native.Nat.{ℕ, _*_}
+use Prim.Native.Nat.{_*_}
 use lib.ListN.{length}
 use Rattle.rules.specs.Blocks as rules
 use Rattle.rules.specs.Loading.{massOf, centreOf, freeSurfaceOf}
@@ -9,6 +9,7 @@ use Rattle.rules.specs.Walk.{Head, one, nest}
 use Rattle.rules.specs.Walk as walk
 use Rattle.book.specs.Book.{refusal, plainShip, plainWeather, plainRow, blankRow}
 use Rattle.book.specs.declared.Sums.{Sums}
+use Rattle.book.specs.declared.Refusal.{Refusal}
 use Rattle.blocks.specs.declared.Begun.{Begun}
 use Rattle.blocks.specs.declared.Begun.the-variants as begun
 use Rattle.blocks.specs.declared.entries.Kind.{Kind}
@@ -23,6 +24,7 @@ use Rattle.blocks.specs.declared.weather.WeatherRead.{WeatherRead}
 use Rattle.blocks.specs.declared.weather.WeatherRead.the-variants as weather
 use Rattle.blocks.specs.declared.ship.ShipRead.{ShipRead}
 use Rattle.blocks.specs.declared.ship.ShipRead.the-variants as ship
+use Rattle.blocks.specs.declared.row.RowAnswer.{RowAnswer}
 use Rattle.blocks.specs.declared.row.RowAnswer.the-variants as row
 use Rattle.blocks.specs.declared.row.RowRead.{RowRead}
 
@@ -71,3 +73,19 @@ shipRead (got s) = ship.Within (plainShip s)
 abbrev pub rowRead : Ans rules.Row → RowRead
 rowRead (refused n l o) = record { answer = row.Refused (refusal n l o); row = blankRow }
 rowRead (got r) = record { answer = row.Within; row = plainRow r }
+
+-- ---- the refusal of an answer, or none, which is number 0, as in the report
+abbrev pub noRefusal : Refusal
+noRefusal = refusal 0 0 0
+
+abbrev pub weatherFault : WeatherRead → Refusal
+weatherFault (weather.Within w) = noRefusal
+weatherFault (weather.Refused r) = r
+
+abbrev pub shipFault : ShipRead → Refusal
+shipFault (ship.Within s) = noRefusal
+shipFault (ship.Refused r) = r
+
+abbrev pub rowFault : RowAnswer → Refusal
+rowFault row.Within = noRefusal
+rowFault (row.Refused r) = r

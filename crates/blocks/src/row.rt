@@ -8,7 +8,8 @@ ghost use Rattle.rules.specs.Outcome.{refused};
 ghost use Rattle.rules.specs.Walk.{rowIn};
 ghost use Rattle.rules.specs.Parts.{headAt};
 ghost use Rattle.book.specs.Book.{rowOf, blankRow};
-ghost use Rattle.blocks.specs.BlockAnswers.{rowRead};
+ghost use Rattle.blocks.specs.BlockAnswers.{rowRead, rowFault};
+use crate::NO_REFUSAL;
 use crate::refusal;
 use numbers::both;
 use numbers::fits;
@@ -20,7 +21,19 @@ pub enum RowAnswer {
     Refused(book::Refusal),
 }
 
-// A row, which is blank where it is refused. (An enum holds no array, so it stands beside the answer.)
+impl RowAnswer {
+    // The refusal, or none.
+    pub fn fault(self) -> book::Refusal
+        ensures { λ r. ⌜ r ≡ rowFault self ⌝ }
+    {
+        match self {
+            RowAnswer::Within => NO_REFUSAL,
+            RowAnswer::Refused(r) => r,
+        }
+    }
+}
+
+// A row beside its answer, blank where it is refused.
 pub struct RowRead {
     pub answer: RowAnswer,
     pub row: book::Row,

@@ -1,14 +1,13 @@
-// A1: the ship's frame.
+// A1: the ship.
 ghost use mathlib.Core.Path.{_≡_};
 ghost use Prim.Native.Nat.{_+_, _≤_};
 ghost use lib.ListN.{length};
 ghost use Rattle.rules.specs.Blocks.{values, ok, ship};
-ghost use Rattle.rules.specs.Walk.{fixedIn, shipFrame};
+ghost use Rattle.rules.specs.Walk.{fixedIn};
 ghost use Rattle.rules.specs.Parts.{headAt};
 ghost use Rattle.book.specs.Book.{shipOf};
-ghost use Rattle.blocks.specs.BlockAnswers.{shipRead};
-use crate::Begun;
-use crate::header;
+ghost use Rattle.blocks.specs.BlockAnswers.{shipRead, shipFault};
+use crate::NO_REFUSAL;
 use crate::refusal;
 use numbers::both;
 use numbers::fits;
@@ -18,6 +17,18 @@ use numbers::wide;
 pub enum ShipRead {
     Within(book::Ship),
     Refused(book::Refusal),
+}
+
+impl ShipRead {
+    // The refusal, or none.
+    pub fn fault(self) -> book::Refusal
+        ensures { λ r. ⌜ r ≡ shipFault self ⌝ }
+    {
+        match self {
+            ShipRead::Within(_) => NO_REFUSAL,
+            ShipRead::Refused(r) => r,
+        }
+    }
 }
 
 fn read_ship(body: &[u8]) -> book::Ship
@@ -43,7 +54,7 @@ fn ship_fits(s: book::Ship) -> bool
 }
 
 // A ship whose head is read: 3, 6.
-fn ship_in(s: &[u8], len: usize, line: usize) -> ShipRead
+pub fn ship_in(s: &[u8], len: usize, line: usize) -> ShipRead
     requires { ⌜ 3 + len ≤ length (now s) ⌝ }
     ensures { λ r. ⌜ r ≡ shipRead (fixedIn line ship (headAt 0xA1 len (now (s .entry)))) ⌝ }
 {
@@ -59,17 +70,4 @@ fn ship_in(s: &[u8], len: usize, line: usize) -> ShipRead
     } else {
         ShipRead::Refused(refusal(6, line, 0))
     }
-}
-
-// 2, 4, 3, 6.
-pub fn ship_frame(s: &[u8], line: usize) -> ShipRead
-    ensures { λ r. ⌜ r ≡ shipRead (shipFrame line (now (s .entry))) ⌝ }
-{
-    let Begun::Block { tag, len } = header(s) else {
-        return ShipRead::Refused(refusal(2, line, 0));
-    };
-    if tag != 0xA1 {
-        return ShipRead::Refused(refusal(4, line, 0));
-    }
-    ship_in(s, len, line)
 }

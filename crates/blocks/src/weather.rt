@@ -4,7 +4,8 @@ ghost use lib.ListN.{length};
 ghost use Rattle.rules.specs.Blocks.{values, ok, weather};
 ghost use Rattle.rules.specs.Walk.{weatherAt};
 ghost use Rattle.book.specs.Book.{weatherOf};
-ghost use Rattle.blocks.specs.BlockAnswers.{weatherRead};
+ghost use Rattle.blocks.specs.BlockAnswers.{weatherRead, weatherFault};
+use crate::NO_REFUSAL;
 use crate::refusal;
 use numbers::both;
 use numbers::fits;
@@ -14,6 +15,18 @@ use numbers::u32_at;
 pub enum WeatherRead {
     Within(book::Weather),
     Refused(book::Refusal),
+}
+
+impl WeatherRead {
+    // The refusal, or none.
+    pub fn fault(self) -> book::Refusal
+        ensures { λ r. ⌜ r ≡ weatherFault self ⌝ }
+    {
+        match self {
+            WeatherRead::Within(_) => NO_REFUSAL,
+            WeatherRead::Refused(r) => r,
+        }
+    }
 }
 
 fn read_weather(body: &[u8]) -> book::Weather

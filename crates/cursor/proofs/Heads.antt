@@ -14,7 +14,7 @@ use Rattle.blocks.specs.declared.Begun.{Begun}
 use Rattle.blocks.specs.declared.Begun.the-variants as begun
 use Rattle.blocks.proofs.Heads.{head-short, head-block}
 use Rattle.book.specs.declared.Refusal.{Refusal}
-use Rattle.cursor.specs.BlockParts.{headOf}
+use Rattle.cursor.specs.BlockParts.{headOf, headFault}
 use Rattle.cursor.specs.declared.Head.{Head}
 use Rattle.cursor.specs.declared.Head.the-variants.{Block, Refused}
 
@@ -35,8 +35,9 @@ module _ (s : List ℕ) (ln at : ℕ) where
       go (begun.Block t n) e = let h = head-block s (begunOf (header 0 0 s)) refl t n e in subst Is (block-head s ln at t n (h .0) (h .1 ln at)) (h .0, h .1 ln at)
 
   module _ (r : Head) (e : r ≡ headOf (header ln at s)) where
-    pub begins-refused : (x : Refusal) → r ≡ Refused x → (x ≡ refusal 2 ln at) × (header ln at s ≡ refused 2 ln at)
-    begins-refused x q = subst Is (sym e ∙ q) is-head
+    -- A head that is refused, and its refusal.
+    pub begins-fault : (x f : Refusal) → r ≡ Refused x → f ≡ headFault r → (f ≡ refusal 2 ln at) × (header ln at s ≡ refused 2 ln at)
+    begins-fault x f q p = let h : Is (Refused x) = subst Is (sym e ∙ q) is-head in (p ∙ ap headFault q ∙ h .0, h .1)
 
     pub begins-block : (t n : ℕ) → r ≡ Block t n → (3 + n ≤ length s) × (header ln at s ≡ got (headAt t n s))
     begins-block t n q = subst Is (sym e ∙ q) is-head

@@ -1,5 +1,6 @@
 pub mod Parts
 pub mod Heads
+pub mod Readers
 pub mod Held
 pub mod Opened
 pub mod OneAnswer

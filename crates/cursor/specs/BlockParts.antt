@@ -6,6 +6,8 @@ use Rattle.rules.specs.Outcome.{Ans, refused, got}
 use Rattle.rules.specs.Walk as walk
 use Rattle.rules.specs.Parts.{part}
 use Rattle.book.specs.Book.{refusal}
+use Rattle.book.specs.declared.Refusal.{Refusal}
+use Rattle.blocks.specs.BlockAnswers.{noRefusal}
 use Rattle.cursor.specs.declared.Head.{Head}
 use Rattle.cursor.specs.declared.Head.the-variants as head
 use Rattle.cursor.specs.declared.Part.{Part}
@@ -14,6 +16,11 @@ use Rattle.cursor.specs.declared.Part.the-variants.{Body, Rest}
 abbrev pub headOf : Ans walk.Head → Head
 headOf (refused n l o) = head.Refused (refusal n l o)
 headOf (got h) = head.Block (h .tag) (length (h .body))
+
+-- Its refusal, or none.
+abbrev pub headFault : Head → Refusal
+headFault (head.Block t n) = noRefusal
+headFault (head.Refused r) = r
 
 -- Where a part of a block of len bytes begins and ends, counted from the block's tag; n bytes are left of the parent.
 abbrev pub starts : Part → ℕ → ℕ

@@ -1,1 +1,2 @@
 pub mod BlockParts
+pub mod Readers

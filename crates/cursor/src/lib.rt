@@ -1,15 +1,28 @@
-// A small reader: the bytes that are left of a parent, and the place in the line at which they begin. 'Blocks as they begin, first byte
-// to last.' The functions over it are thin: each takes it apart, and calls a function on the slice and the number.
+// A small reader: the bytes that are left of a parent, and the place, line and offset, at which the first of them stands. 'Blocks as they
+// begin, first byte to last.' The functions over it are thin: each takes it apart, and calls functions on the slice and the numbers.
 ghost use mathlib.Core.Path.{_≡_};
 ghost use Prim.Native.Nat.{_+_, _≤_, _<_, _^_};
 ghost use lib.ListN.{length};
 ghost use Rattle.rules.specs.Walk.{header};
-ghost use Rattle.cursor.specs.BlockParts.{starts, ends, bytesOf, further, headOf};
+ghost use Rattle.cursor.specs.BlockParts.{headOf, headFault, starts, ends, bytesOf, further};
+ghost use Rattle.cursor.specs.Readers.{Opened, Begins, Moved};
 
 // A block that lies inside its parent, or 2 with its place.
 pub enum Head {
     Block { tag: u8, len: usize },
     Refused(book::Refusal),
+}
+
+impl Head {
+    // The refusal, or none.
+    pub fn fault(self) -> book::Refusal
+        ensures { λ r. ⌜ r ≡ headFault self ⌝ }
+    {
+        match self {
+            Head::Block { tag: _, len: _ } => blocks::NO_REFUSAL,
+            Head::Refused(r) => r,
+        }
+    }
 }
 
 // What a block parts its parent into: its body, and what stands after it.
@@ -18,9 +31,9 @@ pub enum Part {
     Rest,
 }
 
-// ---- the slice and the number
-// What begins in `s`, whose first byte stands at `at` of its line.
-pub fn head_at(s: &[u8], at: usize, line: usize) -> Head
+// ---- the slice and the numbers
+// What begins in `s`, whose first byte stands at this line and offset.
+pub fn head_at(s: &[u8], line: usize, at: usize) -> Head
     ensures { λ r. ⌜ r ≡ headOf (header line at (now (s .entry))) ⌝ }
 {
     let blocks::Begun::Block { tag, len } = blocks::header(s) else {
@@ -51,7 +64,7 @@ fn ends(part: Part, len: usize, n: usize) -> usize
 }
 
 // The bytes of a part.
-pub fn cut(s: &[u8], part: Part, len: usize) -> &[u8]
+pub fn bytes(s: &[u8], part: Part, len: usize) -> &[u8]
     requires { ⌜ 3 + len ≤ length (now s) ⌝ }
     ensures { λ r. ⌜ (now r ≡ bytesOf part len (now (s .entry))) × (r .ptr ≡ further (s .entry .ptr) (starts part len)) ⌝ }
 {
@@ -60,7 +73,7 @@ pub fn cut(s: &[u8], part: Part, len: usize) -> &[u8]
     &s[a..e]
 }
 
-// The place in the line of a part.
+// The offset of a part.
 pub fn onward(at: usize, part: Part, len: usize) -> usize
     requires { ⌜ at + (3 + len) < 2 ^ 64 ⌝ }
     ensures { λ r. ⌜ r ≡ at + starts part len ⌝ }
@@ -71,60 +84,48 @@ pub fn onward(at: usize, part: Part, len: usize) -> usize
 // ---- the reader
 pub struct Reader<'a> {
     pub src: &'a [u8],
+    pub line: usize,
     pub at: usize,
 }
 
 // A reader at a place.
-pub fn new<'a>(src: &'a [u8], at: usize) -> Reader<'a>
-    ensures { λ r. ⌜ (r .src ≡ src .entry) × (r .at ≡ at) ⌝ }
+pub fn new<'a>(src: &'a [u8], line: usize, at: usize) -> Reader<'a>
+    ensures { λ r. ⌜ Opened (src .entry) line at r ⌝ }
 {
-    Reader { src, at }
-}
-
-// Where it stands.
-pub fn place<'a>(r: Reader<'a>) -> usize
-    ensures { λ n. ⌜ n ≡ r .entry .at ⌝ }
-{
-    r.at
-}
-
-// The bytes that are left.
-pub fn left<'a>(r: Reader<'a>) -> &'a [u8]
-    ensures { λ s. ⌜ s ≡ r .entry .src ⌝ }
-{
-    r.src
+    Reader { src, line, at }
 }
 
 // What begins here.
-pub fn begins<'a>(r: Reader<'a>, line: usize) -> Head
-    ensures { λ b. ⌜ b ≡ headOf (header line (r .entry .at) (now (r .entry .src))) ⌝ }
+pub fn begins<'a>(r: Reader<'a>) -> Head
+    ensures { λ h. ⌜ Begins (r .entry) h ⌝ }
 {
-    head_at(r.src, r.at, line)
+    head_at(r.src, r.line, r.at)
 }
 
 // The reader over the body of the block that begins here, or past that block.
 pub fn over<'a>(r: Reader<'a>, part: Part, len: usize) -> Reader<'a>
     requires { ⌜ (3 + len ≤ length (now (r .src))) × (r .at + (3 + len) < 2 ^ 64) ⌝ }
-    ensures { λ q. ⌜ (now (q .src) ≡ bytesOf part len (now (r .entry .src))) × (q .src .ptr ≡ further (r .entry .src .ptr) (starts part len)) × (q .at ≡ r .entry .at + starts part len) ⌝ }
+    ensures { λ q. ⌜ Moved (r .entry) part len q ⌝ }
 {
     Reader {
-        src: cut(r.src, part, len),
+        src: bytes(r.src, part, len),
+        line: r.line,
         at: onward(r.at, part, len),
     }
 }
 
-// ---- for callers that hold the slice and the number
+// ---- for callers that hold the slice and the numbers
 // What begins in `s`, by a reader.
-pub fn begin(s: &[u8], at: usize, line: usize) -> Head
-    ensures { λ b. ⌜ b ≡ headOf (header line at (now (s .entry))) ⌝ }
+pub fn begin(s: &[u8], line: usize, at: usize) -> Head
+    ensures { λ h. ⌜ h ≡ headOf (header line at (now (s .entry))) ⌝ }
 {
-    begins(new(s, at), line)
+    begins(new(s, line, at))
 }
 
-// The bytes of a part of the block that begins in `s`, by a reader.
-pub fn bytes(s: &[u8], at: usize, part: Part, len: usize) -> &[u8]
+// What begins in a part of the block that begins in `s`, by a reader.
+pub fn begin_in(s: &[u8], line: usize, at: usize, part: Part, len: usize) -> Head
     requires { ⌜ (3 + len ≤ length (now s)) × (at + (3 + len) < 2 ^ 64) ⌝ }
-    ensures { λ r. ⌜ now r ≡ bytesOf part len (now (s .entry)) ⌝ }
+    ensures { λ h. ⌜ h ≡ headOf (header line (at + starts part len) (bytesOf part len (now (s .entry)))) ⌝ }
 {
-    left(over(new(s, at), part, len))
+    begins(over(new(s, line, at), part, len))
 }

@@ -12,7 +12,8 @@ use Rattle.book.specs.declared.Sums.{Sums}
 use Rattle.blocks.specs.BlockAnswers.{sumsOfOne}
 use Rattle.frames.specs.Sums.{none, plus}
 
-same : {a b c d a′ b′ c′ d′ : ℕ} → a ≡ a′ → b ≡ b′ → c ≡ c′ → d ≡ d′ → _≡_ {A = Sums} (record { count = a; mass = b; moment = c; free = d }) (record { count = a′; mass = b′; moment = c′; free = d′ })
+-- Sums are the same where each of the four is.
+pub same : {a b c d a′ b′ c′ d′ : ℕ} → a ≡ a′ → b ≡ b′ → c ≡ c′ → d ≡ d′ → _≡_ {A = Sums} (record { count = a; mass = b; moment = c; free = d }) (record { count = a′; mass = b′; moment = c′; free = d′ })
 same p q r s = rw (p, q, r, s)
 
 pub plus-none : (t : Sums) → plus none t ≡ t

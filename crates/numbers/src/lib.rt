@@ -13,18 +13,23 @@ pub fn wide(x: u8) -> u64
     x as u64
 }
 
+// The number in two bytes, the highest first, and in four.
 pub fn u16_at(s: &[u8], at: usize) -> u64
     requires { ⌜ at + 1 < length (now s) ⌝ }
     ensures { λ r. ⌜ (r ≡ be2 (now (s .entry)) at) × (r < 65536) ⌝ }
 {
-    wide(s[at]) * 256 + wide(s[at + 1])
+    let high = wide(s[at]);
+    let low = wide(s[at + 1]);
+    high * 256 + low
 }
 
 pub fn u32_at(s: &[u8], at: usize) -> u64
     requires { ⌜ at + 3 < length (now s) ⌝ }
     ensures { λ r. ⌜ (r ≡ be4 (now (s .entry)) at) × (r < 4294967296) ⌝ }
 {
-    u16_at(s, at) * 65536 + u16_at(s, at + 2)
+    let high = u16_at(s, at);
+    let low = u16_at(s, at + 2);
+    high * 65536 + low
 }
 
 // ---- tests

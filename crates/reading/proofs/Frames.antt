@@ -17,10 +17,8 @@ use Rattle.book.specs.declared.Ship.{Ship}
 use Rattle.book.specs.declared.Row.{Row}
 use Rattle.book.specs.declared.Table.{Table}
 use Rattle.book.specs.declared.Refusal.{Refusal}
-use Rattle.blocks.specs.BlockAnswers.{begunOf, shipRead}
-use Rattle.blocks.specs.declared.Begun.{Begun}
-use Rattle.blocks.specs.declared.Begun.the-variants as begun
-use Rattle.blocks.proofs.Heads.{head-short, head-block}
+use Rattle.blocks.specs.BlockAnswers.{shipRead}
+use Rattle.cursor.specs.BlockParts.{headOf}
 use Rattle.frames.specs.FrameAnswers.{frameRead}
 use Rattle.reading.specs.TextAnswers.{refusedRead, told}
 use Rattle.reading.specs.Moved.{afterShip, afterFound, afterWhole, moved, withRow, finished}
@@ -54,11 +52,11 @@ ending r t (got u) = record { answer = answer.Whole r; table = t }
 run-whole : (r : Read) (t : Table) (ls : List (List ℕ)) (ln : ℕ) → run (Whole r) t ln ls ≡ ending r t (closed ln ls)
 unfolding run moved closed
 run-whole r t [] ln = refl
-run-whole r t (l ∷ ls) ln = go (begunOf (header 0 0 l)) refl
+run-whole r t (l ∷ ls) ln = go (header ln 0 l)
   where
-    go : (b : Begun) → begunOf (header 0 0 l) ≡ b → run (afterWhole ln b) t (ln + 1) ls ≡ ending r t (closed ln (l ∷ ls))
-    go begun.Short e = run-refused _ t ls (ln + 1) ∙ sym (ap (ending r t) (bind-refused _ (head-short l _ refl e ln 0)))
-    go (begun.Block a n) e = run-refused _ t ls (ln + 1) ∙ sym (ap (ending r t) (bind-got _ (head-block l _ refl a n e .1 ln 0)))
+    go : (m : Ans Head) → run (afterWhole ln (headOf m)) t (ln + 1) ls ≡ ending r t (m >>= λ h. refused 4 ln 0)
+    go (refused a b c) = run-refused _ t ls (ln + 1) ∙ sym (ap (ending r t) (bind-refused _ refl))
+    go (got h) = run-refused _ t ls (ln + 1) ∙ sym (ap (ending r t) (bind-got _ refl))
 
 -- ---- the rows and the condition
 -- A row is told only where there is room for it.

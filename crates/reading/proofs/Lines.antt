@@ -4,7 +4,7 @@ use mathlib.Core.Bool.{true, false}
 use mathlib.Core.List.{List, [], _∷_}
 use Prim.Native.Nat.{ℕ, _+_, _≤_, _<_}
 use native.Mathlib.Omega.{arith}
-use lib.ListN.{length, drop}
+use lib.ListN.{length, drop, set}
 use borrow.Author.Tests.{le-leb, lt-leb}
 use Rattle.rules.specs.Layout.{mostRows, mostCharacters}
 use Rattle.rules.specs.Outcome.{Ans, refused, got, _>>=_}
@@ -17,7 +17,7 @@ use Rattle.book.specs.declared.Table.{Table}
 use Rattle.text.proofs.Laws.{lines-none}
 use Rattle.frames.specs.FrameAnswers.{frameRead}
 use Rattle.reading.specs.TextAnswers.{refusedRead, told}
-use Rattle.reading.specs.Moved.{afterFound, moved, withRow, finished}
+use Rattle.reading.specs.Moved.{afterFound, moved, finished}
 use Rattle.reading.specs.declared.State.{State}
 use Rattle.reading.specs.declared.State.the-variants.{Awaited, Rows, Whole, Refused}
 use Rattle.reading.specs.declared.Moved.{Moved}
@@ -66,8 +66,8 @@ module _ (s : State) (t : Table) (ln : ℕ) (x : List ℕ) where
         go (refused n l o) = ap (through _) (bind-refused _ refl)
         go (got ls) = ap (through _) (bind-got _ refl)
 
-    pub onward-row : m .adds ≡ true → (u : Table) → u ≡ withRow t (m .row) → onward s t ln x ≡ onward (m .state) u (ln + 1) (part a (length x) x)
-    onward-row f u p = onward-line ∙ rw (f, p)
+    pub onward-row : m .adds ≡ true → (k : ℕ) → k ≡ t .count + 1 → onward s t ln x ≡ onward (m .state) (record { rows = set (t .rows) (t .count) (m .row); count = k }) (ln + 1) (part a (length x) x)
+    onward-row f k p = onward-line ∙ rw (f, p)
 
     pub onward-rowless : m .adds ≡ false → onward s t ln x ≡ onward (m .state) t (ln + 1) (part a (length x) x)
     onward-rowless f = onward-line ∙ rw f

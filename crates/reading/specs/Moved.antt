@@ -8,11 +8,12 @@ use Rattle.book.specs.Book.{refusal, blankRow}
 use Rattle.book.specs.declared.Ship.{Ship}
 use Rattle.book.specs.declared.Row.{Row}
 use Rattle.book.specs.declared.Table.{Table}
-use Rattle.blocks.specs.BlockAnswers.{begunOf, shipRead}
-use Rattle.blocks.specs.declared.Begun.{Begun}
-use Rattle.blocks.specs.declared.Begun.the-variants as begun
+use Rattle.blocks.specs.BlockAnswers.{shipRead}
 use Rattle.blocks.specs.declared.ship.ShipRead.{ShipRead}
 use Rattle.blocks.specs.declared.ship.ShipRead.the-variants as ship
+use Rattle.cursor.specs.BlockParts.{headOf}
+use Rattle.cursor.specs.declared.Head.{Head}
+use Rattle.cursor.specs.declared.Head.the-variants as head
 use Rattle.frames.specs.FrameAnswers.{frameRead}
 use Rattle.frames.specs.declared.Found.{Found}
 use Rattle.frames.specs.declared.Found.the-variants as found
@@ -39,15 +40,15 @@ afterFound s r (found.Condition c) = record { state = Whole (record { ship = s; 
 afterFound s r (found.Refused x) = record { state = Refused x; adds = false; row = r }
 
 -- 4: 'a frame after A3', behind its own 2.
-abbrev pub afterWhole : ℕ → Begun → State
-afterWhole ln begun.Short = Refused (refusal 2 ln 0)
-afterWhole ln (begun.Block t n) = Refused (refusal 4 ln 0)
+abbrev pub afterWhole : ℕ → Head → State
+afterWhole ln (head.Refused r) = Refused r
+afterWhole ln (head.Block t n) = Refused (refusal 4 ln 0)
 
 -- A frame in line ln, with k rows before it. Once refused, frames are no longer looked at.
 unfoldable pub moved : State → ℕ → ℕ → List ℕ → Moved
 moved Awaited k ln l = rowless (afterShip (shipRead (shipFrame ln l)))
 moved (Rows s p) k ln l = let f = frameRead (frameAt ln k p l) in afterFound s (f .row) (f .found)
-moved (Whole r) k ln l = rowless (afterWhole ln (begunOf (header 0 0 l)))
+moved (Whole r) k ln l = rowless (afterWhole ln (headOf (header ln 0 l)))
 moved (Refused r) k ln l = rowless (Refused r)
 
 -- One more row.

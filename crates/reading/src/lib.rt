@@ -1,15 +1,15 @@
 // A whole text: line after line into one buffer, and each frame as it comes. Every character is looked at once.
 ghost use mathlib.Core.Path.{_≡_};
 ghost use mathlib.Core.List.{[]};
-ghost use Prim.Native.Nat.{_≤_, _<_};
-ghost use Rattle.rules.specs.Walk.{read};
-ghost use Rattle.rules.specs.Layout.{mostRows};
+ghost use Prim.Native.Nat.{_≤_};
+ghost use Rattle.rules.specs.Walk.{header, read};
 ghost use Rattle.book.specs.Book.{tableOf};
+ghost use Rattle.cursor.specs.BlockParts.{headOf};
 ghost use Rattle.reading.specs.TextAnswers.{told, refusedRead};
-ghost use Rattle.reading.specs.Moved.{rowless, afterShip, afterFound, afterWhole, moved, withRow, finished};
-use blocks::Begun;
+ghost use Rattle.reading.specs.Moved.{rowless, afterShip, afterFound, afterWhole, moved, finished};
 use blocks::refusal;
 use blocks::ship::ShipRead;
+use cursor::Head;
 use frames::Found;
 use text::LineRead;
 
@@ -62,17 +62,6 @@ fn blank_table() -> book::Table
     }
 }
 
-fn with_row(table: book::Table, row: book::Row) -> book::Table
-    requires { ⌜ table .count < mostRows ⌝ }
-    ensures { λ r. ⌜ r ≡ withRow table row ⌝ }
-{
-    let mut t = table;
-    let k = t.count;
-    t.rows[k] = row;
-    t.count = k + 1;
-    t
-}
-
 fn refused(r: book::Refusal) -> TextRead
     ensures { λ t. ⌜ t ≡ refusedRead r ⌝ }
 {
@@ -96,10 +85,10 @@ fn rowless(state: State) -> Moved
 fn after_ship(read: ShipRead) -> State
     ensures { λ r. ⌜ r ≡ afterShip read ⌝ }
 {
-    match read {
-        ShipRead::Within(ship) => State::Rows { ship, last: 0 },
-        ShipRead::Refused(r) => State::Refused(r),
-    }
+    let ShipRead::Within(ship) = read else {
+        return State::Refused(read.fault());
+    };
+    State::Rows { ship, last: 0 }
 }
 
 fn after_found(ship: book::Ship, row: book::Row, found: Found) -> Moved
@@ -136,13 +125,14 @@ fn after_found(ship: book::Ship, row: book::Row, found: Found) -> Moved
 }
 
 // 4: 'a frame after A3', behind its own 2.
-fn after_whole(line: usize, begun: Begun) -> State
-    ensures { λ r. ⌜ r ≡ afterWhole line begun ⌝ }
+fn after_whole(frame: &[u8], line: usize) -> State
+    ensures { λ r. ⌜ r ≡ afterWhole line (headOf (header line 0 (now (frame .entry)))) ⌝ }
 {
-    match begun {
-        Begun::Short => State::Refused(refusal(2, line, 0)),
-        Begun::Block { tag: _, len: _ } => State::Refused(refusal(4, line, 0)),
-    }
+    let head = cursor::begin(frame, line, 0);
+    let Head::Block { tag: _, len: _ } = head else {
+        return State::Refused(head.fault());
+    };
+    State::Refused(refusal(4, line, 0))
 }
 
 // A frame in this line, with so many rows before it.
@@ -150,14 +140,14 @@ fn moves(state: State, frame: &[u8], line: usize, rows: usize) -> Moved
     ensures { λ r. ⌜ r ≡ moved state rows line (now (frame .entry)) ⌝ }
 {
     match state {
-        State::Awaited => rowless(after_ship(blocks::ship::ship_frame(frame, line))),
+        State::Awaited => rowless(after_ship(frames::ship_frame(frame, line))),
         State::Rows { ship, last } => {
             let f = frames::frame_at(frame, line, rows, last);
             let row = f.row;
             let found = f.found;
             after_found(ship, row, found)
         }
-        State::Whole(_) => rowless(after_whole(line, blocks::header(frame))),
+        State::Whole(_) => rowless(after_whole(frame, line)),
         State::Refused(_) => rowless(state),
     }
 }
@@ -207,7 +197,8 @@ pub fn read_text(text: &[u8]) -> TextRead
                 state = m.state;
                 if m.adds {
                     let row = m.row;
-                    table = with_row(table, row);
+                    table.rows[rows] = row;
+                    table.count = rows + 1;
                 }
             }
         }

@@ -1,4 +1,5 @@
 -- `starts` meets its contract: case by case.
+use native.Mathlib.Omega.{arith}
 use borrow.Author.Needs.{needs}
 use Rattle.cursor.proofs.starts.Statement.{statement}
 use Rattle.cursor.proofs.starts.Tie as tie
@@ -13,10 +14,10 @@ add-result : tie.Need-add-result
 add-result c = search needs
 
 returns : tie.Need-returns
-returns c = rw (c .enum-told .given .1)
+returns c = rw (c .enum-told .given .1) (omega arith)
 
 returns-2 : tie.Need-returns-2
-returns-2 c = rw (c .enum-told2 .given .1)
+returns-2 c = rw (c .enum-told2 .given .1) (omega arith)
 
 pub starts-spec : {M : Type 1} → statement M
 starts-spec = tie.close (tie.spec enum-told enum-told-2 add-result returns returns-2)

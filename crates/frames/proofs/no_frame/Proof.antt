@@ -3,14 +3,11 @@ use borrow.Author.Needs.{needs}
 use Rattle.frames.proofs.no_frame.Statement.{statement}
 use Rattle.frames.proofs.no_frame.Tie as tie
 
-refusal-requires : tie.Need-refusal-requires
-refusal-requires c κs = search needs
-
 blank-row-requires : tie.Need-blank-row-requires
 blank-row-requires c κs = search needs
 
 returns : tie.Need-returns
-returns c = rw (c .before .refusal .ensures, c .blank-row .ensures)
+returns c = rw (c .blank-row .ensures)
 
 pub no-frame-spec : {M : Type 1} → statement M
-no-frame-spec = tie.close (tie.spec refusal-requires blank-row-requires returns)
+no-frame-spec = tie.close (tie.spec blank-row-requires returns)

@@ -6,14 +6,17 @@ use Rattle.reading.proofs.after_ship.Tie as tie
 enum-known-read : tie.Need-enum-known-read
 enum-known-read c = search needs
 
-enum-known-read-2 : tie.Need-enum-known-read-2
-enum-known-read-2 c = search needs
+enum-told : tie.Need-enum-told
+enum-told c = search needs
+
+fault-requires : tie.Need-fault-requires
+fault-requires c κs = search needs
 
 returns : tie.Need-returns
-returns c = rw (c .before .read .given .1)
+returns c = rw (c .fault .ensures, c .before .enum-told .given .1)
 
 returns-2 : tie.Need-returns-2
-returns-2 c = rw (c .before .read2 .given .1)
+returns-2 c = rw (c .before .read .given .1)
 
 pub after-ship-spec : {M : Type 1} → statement M
-after-ship-spec = tie.close (tie.spec enum-known-read enum-known-read-2 returns returns-2)
+after-ship-spec = tie.close (tie.spec enum-known-read enum-told fault-requires returns returns-2)

@@ -28,9 +28,6 @@ after-found-requires c κs = search needs
 enum-told-2 : tie.Need-enum-told-2
 enum-told-2 c = search needs
 
-header-requires : tie.Need-header-requires
-header-requires c κs = search needs
-
 after-whole-requires : tie.Need-after-whole-requires
 after-whole-requires c κs = search needs
 
@@ -60,8 +57,7 @@ returns-3 : tie.Need-returns-3
 unfolding moved
 returns-3 c =
     let a = c .before in
-    let h = a .before in
-    rw (c .rowless2 .ensures, a .after-whole .ensures, h .header .ensures, h .before .enum-told2 .given .1)
+    rw (c .rowless2 .ensures, a .after-whole .ensures, a .before .enum-told2 .given .1)
 
 returns-4 : tie.Need-returns-4
 unfolding moved
@@ -79,7 +75,6 @@ moves-spec =
     frame-at-requires
     after-found-requires
     enum-told-2
-    header-requires
     after-whole-requires
     rowless-requires-2
     enum-told-3

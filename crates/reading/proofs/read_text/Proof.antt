@@ -1,6 +1,6 @@
 -- `read_text` meets its contract: what is left of the text, from the state and the table reached so far, comes to what the whole comes to.
 use mathlib.Core.Path.{subst, _≡_, ap, sym, _∙_}
-use Prim.Native.Nat.{_*_, _≤_, _+_}
+use Prim.Native.Nat.{_*_, _≤_, _<_, _+_}
 use native.Mathlib.Omega.{arith}
 use lib.Seq.{length-take-le}
 use lib.ListN.{length}
@@ -9,6 +9,7 @@ use denote.Ref.{now}
 use Rattle.reading.specs.TextAnswers.{refusedRead, told}
 use Rattle.reading.specs.declared.State.the-variants.{Awaited}
 use Rattle.text.specs.Line.{Leads, LineIs}
+use Rattle.rules.specs.Layout.{mostRows}
 use Rattle.rules.specs.Walk.{read}
 use Rattle.text.proofs.Laws.{line-is}
 use Rattle.reading.proofs.Lines.{onward, read-long, read-onward, onward-end, onward-not, onward-row, onward-rowless, moved-room}
@@ -35,7 +36,9 @@ refused-requires : tie.Need-refused-requires Inv-loop μ-loop
 refused-requires c κs = search needs
 
 returns : tie.Need-returns Inv-loop μ-loop
-returns c = c .refused .ensures ∙ ap refusedRead (c .before .refusal .ensures) ∙ sym (read-long _ (c .before .before .if1 .taken))
+returns c =
+    let x = now (c .before .before .before .before .args .text) in
+    c .refused .ensures ∙ ap refusedRead (c .before .refusal .ensures) ∙ sym (read-long x (omega arith))
 
 blank-table-requires : tie.Need-blank-table-requires Inv-loop μ-loop
 blank-table-requires c κs = search needs
@@ -43,7 +46,7 @@ blank-table-requires c κs = search needs
 loop-holds : tie.Need-loop-holds Inv-loop μ-loop
 loop-holds c =
     let x = now (c .before .before .before .args .text) in
-    (omega arith, omega arith, read-onward x (c .before .if1 .left) ∙ ap (λ t. onward Awaited t 1 x) (sym (c .blank-table .ensures)))
+    (omega arith, omega arith, read-onward x (omega arith) ∙ ap (λ t. onward Awaited t 1 x) (sym (c .blank-table .ensures)))
 
 line-at-requires : tie.Need-line-at-requires Inv-loop μ-loop
 line-at-requires c κs = search needs
@@ -105,21 +108,29 @@ part-rest-end c = search needs
 add-line : tie.Need-add-line Inv-loop μ-loop
 add-line c = let k = c .before .before .before in omega (arith, k .before .before .before .before .before .loop .inv .0)
 
-with-row-requires : tie.Need-with-row-requires Inv-loop μ-loop
-with-row-requires c κs =
-    let m = c .before .before .before in
-    moved-room _ _ _ _ (ap (λ r. r .adds) (sym (m .moves .ensures)) ∙ c .before .if2 .taken)
+-- A row is added only where there is room for it.
+room : (c : tie.After-row Inv-loop μ-loop) → c .before .before .before .before .before .before .before .before .before .before .loop .table .count < mostRows
+room c = let m = c .before .before .before in moved-room _ _ _ _ (ap (λ r. r .adds) (sym (m .moves .ensures)) ∙ c .before .if2 .taken)
+
+mul-row : tie.Need-mul-row Inv-loop μ-loop
+mul-row c = omega (arith, room c)
+
+element-set-from-row : tie.Need-element-set-from-row Inv-loop μ-loop
+element-set-from-row c = omega (arith, room c)
+
+add-table : tie.Need-add-table Inv-loop μ-loop
+add-table c = omega (arith, room c)
 
 loop-less : tie.Need-loop-less Inv-loop μ-loop
-loop-less c = omega (arith, leads (c .before .before .before .before .before .before) .within)
+loop-less c = omega (arith, leads (c .before .before .before .before .before) .within)
 
 loop-again : tie.Need-loop-again Inv-loop μ-loop
 loop-again c =
-    let m = c .before .before .before .before in
+    let m = c .before .before .before in
     let k = m .before .before in
     let d = leads k in
     let i = k .before .before .before .before .before .loop .inv in
-    (omega (arith, d .within, i .0), omega (arith, i .1), i .2 ∙ onward-row _ _ _ _ (2 * k .before .l .given .0 .0 + 1) _ (d .lines _) _ (m .moves .ensures) (c .before .before .if2 .taken) _ (c .with-row .ensures))
+    (omega (arith, d .within, i .0), omega (arith, i .1), i .2 ∙ onward-row _ _ _ _ (2 * k .before .l .given .0 .0 + 1) _ (d .lines _) _ (m .moves .ensures) (c .before .if2 .taken) _ (omega arith))
 
 loop-less-2 : tie.Need-loop-less-2 Inv-loop μ-loop
 loop-less-2 c = omega (arith, leads (c .before .before .before .before) .within)
@@ -161,7 +172,9 @@ read-text-spec =
     part-rest-start
     part-rest-end
     add-line
-    with-row-requires
+    mul-row
+    element-set-from-row
+    add-table
     loop-less
     loop-again
     loop-less-2

@@ -33,7 +33,9 @@ fits-requires-2 : tie.Need-fits-requires-2
 fits-requires-2 c κs = search needs
 
 sub-t6 : tie.Need-sub-t6
-sub-t6 c = low-enough 65 _ _ (tested 65 70 (c .before .before .before .before .wide .ensures .0) (c .before .fits3 .ensures) (c .if2 .taken))
+sub-t6 c =
+    let i = low-enough 65 (c .before .before .before .before .before .args .c) _ (tested 65 _ (c .before .before .before .before .wide .ensures .0) (c .before .fits3 .ensures) (c .if2 .taken)) in
+    omega arith
 
 add-t7 : tie.Need-add-t7
 add-t7 c = search needs

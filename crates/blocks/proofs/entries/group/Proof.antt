@@ -11,7 +11,7 @@ refusal-requires : tie.Need-refusal-requires
 refusal-requires c κs = search needs
 
 returns : tie.Need-returns
-returns c = rw (c .refusal .ensures) (sym (ap blockOf (begun-deep _ _ _ _ _ (c .before .if1 .taken))))
+returns c = rw (c .refusal .ensures) (sym (ap blockOf (begun-deep _ _ _ _ _ (omega arith))))
 
 refusal-requires-2 : tie.Need-refusal-requires-2
 refusal-requires-2 c κs = search needs

@@ -1,5 +1,6 @@
 -- `leaf` meets its contract: length, room and values, in that order: 3, 5, 6.
 use mathlib.Core.Path.{sym, _∙_}
+use native.Mathlib.Omega.{arith}
 use borrow.Author.Needs.{needs}
 use denote.Ref.{now}
 use Rattle.blocks.specs.BlockAnswers.{loadOf}
@@ -27,7 +28,7 @@ returns-2 c =
     let i = c .before in
     let e = i .before in
     let a = e .before .before .before .args in
-    rw (c .refusal2 .ensures) (leaf-full (loadOf (a .k)) _ _ (a .left) (now (a .body)) (e .if1 .left ∙ e .before .size .ensures) (i .if2 .taken))
+    rw (c .refusal2 .ensures) (leaf-full (loadOf (a .k)) _ _ (a .left) (now (a .body)) (e .if1 .left ∙ e .before .size .ensures) (omega arith))
 
 entry-in-requires : tie.Need-entry-in-requires
 entry-in-requires c κs = search needs
@@ -46,14 +47,14 @@ returns-3 c =
     let v = c .before .before .before in
     let e = v .before .before in
     let a = e .before .before .before .args in
-    rw (c .refusal3 .ensures) (leaf-outside (loadOf (a .k)) _ _ (a .left) (now (a .body)) (e .if1 .left ∙ e .before .size .ensures) (v .before .if2 .left) _ (v .entry-in .ensures) (c .before .enum-told .given .1))
+    rw (c .refusal3 .ensures) (leaf-outside (loadOf (a .k)) _ _ (a .left) (now (a .body)) (e .if1 .left ∙ e .before .size .ensures) (λ z. omega arith) _ (v .entry-in .ensures) (c .before .enum-told .given .1))
 
 returns-4 : tie.Need-returns-4
 returns-4 c =
     let v = c .before .before .before in
     let e = v .before .before in
     let a = e .before .before .before .args in
-    leaf-within (loadOf (a .k)) _ _ (a .left) (now (a .body)) (e .if1 .left ∙ e .before .size .ensures) (v .before .if2 .left) _ (v .entry-in .ensures) _ (c .before .e .given .1)
+    leaf-within (loadOf (a .k)) _ _ (a .left) (now (a .body)) (e .if1 .left ∙ e .before .size .ensures) (λ z. omega arith) _ (v .entry-in .ensures) _ (c .before .e .given .1)
 
 pub leaf-spec : {M : Type 1} → statement M
 leaf-spec =
