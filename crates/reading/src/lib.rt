@@ -1,4 +1,4 @@
-// A whole text: line after line into one buffer, and each frame as it comes. Every character is looked at once.
+// A whole text: line after line into one buffer, and each frame as it comes. Every character is looked at once, an LF and the one behind it twice.
 ghost use mathlib.Core.Path.{_≡_};
 ghost use mathlib.Core.List.{[]};
 ghost use Prim.Native.Nat.{_≤_};

@@ -1,4 +1,4 @@
-// Characters: the line at the front of a text, decoded into a buffer with one look at each of its characters.
+// Characters: the line at the front of a text, decoded into a buffer pair by pair, and then what ends it.
 ghost use mathlib.Core.Path.{_≡_};
 ghost use Prim.Native.Nat.{_*_, _≤_};
 ghost use lib.ListN.{length};
