@@ -63,6 +63,10 @@ module _ (t buffer : List ℕ) where
   unfolding number
   number-room h = rw (le-ltb (length buffer) reportLength h, number)
 
+  -- 0 says that the text is judged.
+  pub number-judged : (j : Judgement) → answered t ≡ got j → reportLength ≤ length buffer → number t buffer ≡ 0
+  number-judged j e h = number-room h ∙ ap numberOf e
+
   pub written-room : reportLength ≤ length buffer → written t buffer ≡ reportOf (answered t) ++ drop reportLength buffer
   unfolding written
   written-room h = rw (le-ltb (length buffer) reportLength h, written)

@@ -1,4 +1,4 @@
--- 'Slips the bench has met', and roundings the wrong way: a text on which each shows, with the second program's report, as one list and one theorem.
+-- 'Slips the bench has met', roundings the wrong way, and ends that P1 does not meet: a text on which each shows, with the second program's report, as one list and one theorem.
 -- (r rounded toward zero and a windward side of zero show in P8 and P6.)
 use mathlib.Core.Path.{refl}
 use mathlib.Core.List.{List, [], _∷_}
@@ -26,8 +26,11 @@ slips =
     (broken ("D1006500000000000101010101010101" ∷ "0000000000155CC10000000000000FA000000000000001F4" ∷ "000000645737BC0000000042E46A1900000000A73BA1D500" ∷ "0000000059682F00000000000000012C000000000000002A" ∷ "00000000000000EF000000478E8D8F80" ∷ []))
     -- 'Not beyond min(E, 500)': with E 600 the gust is withstood up to 500, as in P1.
     ∷ judges (with "A30018C1000C000009C40FA002BC025800C8C2000600155CC00FA0") P1-output
+    -- phi0 is none: it is -1, 7 and 8 fail, and 'the last two are 0'. The wind is the strongest that a text can have.
+    ∷ judges (with "A30018C1000C000493E0EA6002BC01F400C8C2000600155CC00FA0")
+    (broken ("D1006500000000000101010101010000" ∷ "0000000000155CC00000000000000FA000000000000001F4" ∷ "000000645737BC0000000042E46A1900000000A73BA1D500" ∷ "0000000059682F00000000000000012CFFFFFFFFFFFFFFFF" ∷ "00000000000000000000000000000000" ∷ []))
     ∷ []
 
 pub slips-hold : All slips
 unfolding answered reportOf
-slips-hold = (refl, (refl, (refl, ((refl, refl), (refl, (refl, (refl, tt)))))))
+slips-hold = (refl, (refl, (refl, ((refl, refl), (refl, (refl, (refl, (refl, tt))))))))
