@@ -5,7 +5,7 @@ use Prim.Native.Nat.{ℕ, zero, suc, _+_, _-_, _*_, _/_, _%_, _≤_, _<_}
 use native.Mathlib.Omega.{arith}
 use native.Mathlib.Nat.{mul-le-mul, mul-le-mul-left, le-of-mul-le-mul-left, mod-lt, div-add-mod}
 use native.Mathlib.Decide.{decLe}
-use lib.IntN.{ℤ, pos, negsuc, natAbs, +ℤ-comm, _+ℤ_, _-ℤ_, _*ℤ_}
+use lib.IntN.{ℤ, pos, negsuc, natAbs, negℤ, +ℤ-comm, _+ℤ_, _-ℤ_, _*ℤ_}
 use lib.Signed.{leZ}
 use Rattle.rules.specs.Rounding.{sumZ}
 use Rattle.rules.specs.Curve.{Loaded, lever, leverZ, y}
@@ -86,7 +86,9 @@ module _ (q : ℕ) (some : 0 < q) (c : Loaded) (upright : y c (pos 0) ≡ pos 0)
       where
         -- t is within the reach of the windward side.
         near : (t : ℕ) → q * (up (start c) + t) ≤ q * dn (start c) → dn (y c (pos t)) ≤ level + up (y c (pos t))
-        near t l = omega (arith, high t (omega (arith, up-neg (pos t), dn-neg (pos t), le-of-mul-le-mul-left {k = q} l some)), up-neg (units (lw2 c)), dn-neg (units (lw2 c)))
+        near t l =
+            let above : Le (negℤ (units (lw2 c))) (y c (pos t)) = high t (omega (arith, up-neg (pos t), dn-neg (pos t), le-of-mul-le-mul-left {k = q} l some)) in
+            omega (arith, up-neg (units (lw2 c)), dn-neg (units (lw2 c)))
 
         line : (p r : ℕ) (a b : ℤ) → p + r ≡ q → dn a ≤ level + up a → (0 < r → dn b ≤ level + up b) → dn (pos p *ℤ a +ℤ pos r *ℤ b) ≤ q * level + up (pos p *ℤ a +ℤ pos r *ℤ b)
         line p zero a b z h k = omega (arith, linear p 0 a b, mul-le-mul-left p h, ap (λ (n : ℕ). n * level) z)

@@ -61,7 +61,7 @@ module _ (m n D D′ : ℕ) (some : 0 < n) (scale : n * D′ ≤ m * D) (c : Wea
   keeps two = area-keeps (code .area2) 300 (min 400 (c .flooding))
   keeps three = area-keeps (code .area3) 0 (min 400 (c .flooding))
   keeps four = both (leb 300 (c .flooding)) (leZ (pos (limitOver D (code .lever))) (greatestLever (c .flooding) h)) (leb 300 (c .flooding)) (leZ (pos (limitOver D′ (code .lever))) (greatestLever (c .flooding) h′)) (λ p. p) (at-least-so (code .lever) (greatestLever (c .flooding) h) (greatestLever (c .flooding) h′) (greatest-keeps (c .flooding)))
-  keeps six = at-least-so (code .gm) (subℕ (h .km) (h .kg)) (subℕ (h′ .km) (h′ .kg)) (difference m n (h .km) (h .kg) (h′ .km) (h′ .kg) (better .km) (better .kg))
+  keeps six = at-least-so (code .gm) (subℕ (h .km) (h .kg)) (subℕ (h′ .km) (h′ .kg)) (difference m n (h .km) (h .kg) (h′ .km) (h′ .kg) (better .km) (omega (arith, better .kg)))
   keeps seven = go (phi0 (c .flooding) h) (phi0 (c .flooding) h′) (heel-keeps (c .flooding))
     where
       go : (a b : ℕ) → b ≤ a → leb a (c .flooding) && leb a (code .heel) && leb (10 * a) (8 * c .deckEdge) ≡ true → leb b (c .flooding) && leb b (code .heel) && leb (10 * b) (8 * c .deckEdge) ≡ true
