@@ -1,5 +1,6 @@
 //! The second program's command line: judge one text, make a corpus or name
-//! its systematic cases, and answer a corpus with reports.
+//! its systematic cases, answer a corpus with reports, judge a text with exact
+//! values, and search for texts that a rounding favours.
 
 mod book;
 mod corpus;

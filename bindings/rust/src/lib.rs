@@ -14,7 +14,8 @@ extern "C" {
 
 /// Judges one text, of any length and any bytes. The number is document 01's: 0 judged, 1 to 8 refused, 9 no room. The report's
 /// 209 characters stand at the front of the buffer, and bytes beyond keep their values; with fewer than 209 nothing is written.
+/// The caller's thread has 80 KiB of stack to spare: no contract bounds it, and what was measured stands in docs/TRUST.md.
 pub fn judge(text: &[u8], report: &mut [u8]) -> u8 {
-    // SAFETY: the function asks nothing of its caller but two slices, and these are slices that cannot overlap.
+    // SAFETY: the contract asks for two slices, and these are slices that cannot overlap.
     unsafe { rostblume_judge(text.as_ptr(), text.len(), report.as_mut_ptr(), report.len()) }
 }

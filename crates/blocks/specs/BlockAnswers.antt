@@ -7,7 +7,7 @@ use Rattle.rules.specs.Loading.{massOf, centreOf, freeSurfaceOf}
 use Rattle.rules.specs.Outcome.{Ans, refused, got}
 use Rattle.rules.specs.Walk.{Head, one, nest}
 use Rattle.rules.specs.Walk as walk
-use Rattle.book.specs.Book.{refusal, plainShip, plainWeather, plainRow, blankRow}
+use Rattle.book.specs.Book.{refusal, noRefusal, plainShip, plainWeather, plainRow, blankRow}
 use Rattle.book.specs.declared.Sums.{Sums}
 use Rattle.book.specs.declared.Refusal.{Refusal}
 use Rattle.blocks.specs.declared.Begun.{Begun}
@@ -74,10 +74,7 @@ abbrev pub rowRead : Ans rules.Row → RowRead
 rowRead (refused n l o) = record { answer = row.Refused (refusal n l o); row = blankRow }
 rowRead (got r) = record { answer = row.Within; row = plainRow r }
 
--- ---- the refusal of an answer, or none, which is number 0, as in the report
-abbrev pub noRefusal : Refusal
-noRefusal = refusal 0 0 0
-
+-- ---- the refusal of an answer, or none
 abbrev pub weatherFault : WeatherRead → Refusal
 weatherFault (weather.Within w) = noRefusal
 weatherFault (weather.Refused r) = r

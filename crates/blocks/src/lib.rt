@@ -17,13 +17,6 @@ pub enum Begun {
     Short,
 }
 
-// No refusal: number 0, as in the report.
-pub const NO_REFUSAL: book::Refusal = book::Refusal {
-    number: 0,
-    line: 0,
-    offset: 0,
-};
-
 pub fn refusal(number: u8, line: usize, offset: usize) -> book::Refusal
     ensures { λ r. ⌜ r ≡ refusal number line offset ⌝ }
 {

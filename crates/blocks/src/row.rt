@@ -9,7 +9,6 @@ ghost use Rattle.rules.specs.Walk.{rowIn};
 ghost use Rattle.rules.specs.Parts.{headAt};
 ghost use Rattle.book.specs.Book.{rowOf, blankRow};
 ghost use Rattle.blocks.specs.BlockAnswers.{rowRead, rowFault};
-use crate::NO_REFUSAL;
 use crate::refusal;
 use numbers::both;
 use numbers::fits;
@@ -27,7 +26,7 @@ impl RowAnswer {
         ensures { λ r. ⌜ r ≡ rowFault self ⌝ }
     {
         match self {
-            RowAnswer::Within => NO_REFUSAL,
+            RowAnswer::Within => book::NO_REFUSAL,
             RowAnswer::Refused(r) => r,
         }
     }

@@ -7,7 +7,6 @@ ghost use Rattle.rules.specs.Walk.{fixedIn};
 ghost use Rattle.rules.specs.Parts.{headAt};
 ghost use Rattle.book.specs.Book.{shipOf};
 ghost use Rattle.blocks.specs.BlockAnswers.{shipRead, shipFault};
-use crate::NO_REFUSAL;
 use crate::refusal;
 use numbers::both;
 use numbers::fits;
@@ -25,7 +24,7 @@ impl ShipRead {
         ensures { λ r. ⌜ r ≡ shipFault self ⌝ }
     {
         match self {
-            ShipRead::Within(_) => NO_REFUSAL,
+            ShipRead::Within(_) => book::NO_REFUSAL,
             ShipRead::Refused(r) => r,
         }
     }

@@ -5,7 +5,6 @@ ghost use Rattle.rules.specs.Blocks.{values, ok, weather};
 ghost use Rattle.rules.specs.Walk.{weatherAt};
 ghost use Rattle.book.specs.Book.{weatherOf};
 ghost use Rattle.blocks.specs.BlockAnswers.{weatherRead, weatherFault};
-use crate::NO_REFUSAL;
 use crate::refusal;
 use numbers::both;
 use numbers::fits;
@@ -23,7 +22,7 @@ impl WeatherRead {
         ensures { λ r. ⌜ r ≡ weatherFault self ⌝ }
     {
         match self {
-            WeatherRead::Within(_) => NO_REFUSAL,
+            WeatherRead::Within(_) => book::NO_REFUSAL,
             WeatherRead::Refused(r) => r,
         }
     }

@@ -65,6 +65,10 @@ judgementOf j = record { verdicts = map report.verdictNumber (j .verdicts); figu
 abbrev pub refusal : ℕ → ℕ → ℕ → Refusal
 refusal n l o = record { number = n; line = l; offset = o }
 
+-- None: number 0, as in the report.
+abbrev pub noRefusal : Refusal
+noRefusal = refusal 0 0 0
+
 -- An answer that ends in this refusal.
 abbrev pub Refuses : {A : Type 0} → Ans A → Refusal → Type 0
 Refuses m r = m ≡ refused (r .number) (r .line) (r .offset)

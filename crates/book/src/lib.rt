@@ -47,6 +47,13 @@ pub struct Refusal {
     pub offset: usize,
 }
 
+// No refusal: number 0, as in the report.
+pub const NO_REFUSAL: Refusal = Refusal {
+    number: 0,
+    line: 0,
+    offset: 0,
+};
+
 // The loaded ship: the displacement W, the corrected KG, and what the table gives at W.
 pub struct Loaded {
     pub ship: Ship,

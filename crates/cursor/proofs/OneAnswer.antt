@@ -11,7 +11,7 @@ use ghost.Atoms.{Atoms}
 use contract.Lifetimes.{Lfts}
 use contract.Monad.{Fun, fact}
 use denote.Ref.{RefT, now}
-use Rattle.cursor.specs.Readers.{Opened, Begins, Moved}
+use Rattle.cursor.specs.Readers.{Opened, Begins, OverPart}
 use Rattle.cursor.specs.declared.Head.{Head}
 use Rattle.cursor.specs.declared.Part.{Part}
 use Rattle.cursor.specs.declared.Reader.{Reader}
@@ -53,7 +53,7 @@ module _ {M : Type 1} (𝓤 : URA M) (H : Heap 𝓤) (A : Atoms 𝓤) (mem : Mem
   pub begins-says : (a g h e : _) → begins.clauses 𝓤 H A mem run κs a .ensures g h e ≡ fact 𝓤 (Begins (a .0) h)
   begins-says a g h e = refl
 
-  pub over-says : (a g q e : _) → over.clauses 𝓤 H A mem run κs a .ensures g q e ≡ fact 𝓤 (Moved (a .0) (a .1 .0) (a .1 .1 .0) q)
+  pub over-says : (a g q e : _) → over.clauses 𝓤 H A mem run κs a .ensures g q e ≡ fact 𝓤 (OverPart (a .0) (a .1 .0) (a .1 .1 .0) q)
   over-says a g q e = refl
 
 -- Then: any two results so related are the same; of a reader over a part, its bytes, where they lie in memory, the line and the offset.
@@ -63,5 +63,5 @@ new-one s l o r r′ p q = λ i. record { src = (p .slice ∙ sym (q .slice)) i;
 pub begins-one : (r : Reader) (h h′ : Head) → Begins r h → Begins r h′ → h ≡ h′
 begins-one r h h′ p q = p ∙ sym q
 
-pub over-one : (r : Reader) (p : Part) (len : ℕ) (q q′ : Reader) → Moved r p len q → Moved r p len q′ → (now (q .src) ≡ now (q′ .src)) × (q .src .ptr ≡ q′ .src .ptr) × (q .line ≡ q′ .line) × (q .at ≡ q′ .at)
+pub over-one : (r : Reader) (p : Part) (len : ℕ) (q q′ : Reader) → OverPart r p len q → OverPart r p len q′ → (now (q .src) ≡ now (q′ .src)) × (q .src .ptr ≡ q′ .src .ptr) × (q .line ≡ q′ .line) × (q .at ≡ q′ .at)
 over-one r p len q q′ a b = (a .bytes ∙ sym (b .bytes), a .place ∙ sym (b .place), a .line ∙ sym (b .line), a .at ∙ sym (b .at))

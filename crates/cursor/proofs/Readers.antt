@@ -6,7 +6,7 @@ use lib.ListN.{length}
 use denote.Ref.{RefT, now}
 use Rattle.rules.specs.Walk.{header}
 use Rattle.cursor.specs.BlockParts.{headOf, starts, bytesOf}
-use Rattle.cursor.specs.Readers.{Opened, Begins, Moved}
+use Rattle.cursor.specs.Readers.{Opened, Begins, OverPart}
 use Rattle.cursor.specs.declared.Head.{Head}
 use Rattle.cursor.specs.declared.Part.{Part}
 use Rattle.cursor.specs.declared.Reader.{Reader}
@@ -20,7 +20,7 @@ module _ (s : RefT (List ℕ)) (l n : ℕ) (r : Reader) (o : Opened s l n r) whe
     pub opened-inside : (3 + len ≤ length (now s)) × (n + (3 + len) < 2 ^ 64) → (3 + len ≤ length (now (r .src))) × (r .at + (3 + len) < 2 ^ 64)
     opened-inside g = (subst (λ (x : RefT (List ℕ)). 3 + len ≤ length (now x)) (sym (o .slice)) (g .0), subst (λ (k : ℕ). k + (3 + len) < 2 ^ 64) (sym (o .at)) (g .1))
 
-    pub moved-begins : (p : Part) (q : Reader) → Moved r p len q → (h : Head) → Begins q h → h ≡ headOf (header l (n + starts p len) (bytesOf p len (now s)))
+    pub moved-begins : (p : Part) (q : Reader) → OverPart r p len q → (h : Head) → Begins q h → h ≡ headOf (header l (n + starts p len) (bytesOf p len (now s)))
     moved-begins p q m h b =
         let a : q .line ≡ l = m .line ∙ o .line in
         let c : q .at ≡ n + starts p len = m .at ∙ ap (λ (k : ℕ). k + starts p len) (o .at) in

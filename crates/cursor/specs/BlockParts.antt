@@ -5,9 +5,8 @@ use lib.ListN.{length}
 use Rattle.rules.specs.Outcome.{Ans, refused, got}
 use Rattle.rules.specs.Walk as walk
 use Rattle.rules.specs.Parts.{part}
-use Rattle.book.specs.Book.{refusal}
+use Rattle.book.specs.Book.{refusal, noRefusal}
 use Rattle.book.specs.declared.Refusal.{Refusal}
-use Rattle.blocks.specs.BlockAnswers.{noRefusal}
 use Rattle.cursor.specs.declared.Head.{Head}
 use Rattle.cursor.specs.declared.Head.the-variants as head
 use Rattle.cursor.specs.declared.Part.{Part}

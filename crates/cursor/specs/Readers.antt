@@ -20,7 +20,7 @@ abbrev pub Begins : Reader → Head → Type 0
 Begins r h = h ≡ headOf (header (r .line) (r .at) (now (r .src)))
 
 -- The reader q over a part of the block of len bytes that begins where r stands: its bytes, and where they lie, in memory and in the line.
-pub record Moved (r : Reader) (part : Part) (len : ℕ) (q : Reader) : Type 0 where
+pub record OverPart (r : Reader) (part : Part) (len : ℕ) (q : Reader) : Type 0 where
   pub bytes : now (q .src) ≡ bytesOf part len (now (r .src))
   pub place : q .src .ptr ≡ further (r .src .ptr) (starts part len)
   pub line : q .line ≡ r .line

@@ -5,7 +5,7 @@ ghost use Prim.Native.Nat.{_+_, _≤_, _<_, _^_};
 ghost use lib.ListN.{length};
 ghost use Rattle.rules.specs.Walk.{header};
 ghost use Rattle.cursor.specs.BlockParts.{headOf, headFault, starts, ends, bytesOf, further};
-ghost use Rattle.cursor.specs.Readers.{Opened, Begins, Moved};
+ghost use Rattle.cursor.specs.Readers.{Opened, Begins, OverPart};
 
 // A block that lies inside its parent, or 2 with its place.
 pub enum Head {
@@ -19,7 +19,7 @@ impl Head {
         ensures { λ r. ⌜ r ≡ headFault self ⌝ }
     {
         match self {
-            Head::Block { tag: _, len: _ } => blocks::NO_REFUSAL,
+            Head::Block { tag: _, len: _ } => book::NO_REFUSAL,
             Head::Refused(r) => r,
         }
     }
@@ -105,7 +105,7 @@ pub fn begins<'a>(r: Reader<'a>) -> Head
 // The reader over the body of the block that begins here, or past that block.
 pub fn over<'a>(r: Reader<'a>, part: Part, len: usize) -> Reader<'a>
     requires { ⌜ (3 + len ≤ length (now (r .src))) × (r .at + (3 + len) < 2 ^ 64) ⌝ }
-    ensures { λ q. ⌜ Moved (r .entry) part len q ⌝ }
+    ensures { λ q. ⌜ OverPart (r .entry) part len q ⌝ }
 {
     Reader {
         src: bytes(r.src, part, len),

@@ -9,6 +9,7 @@ use Rattle.rules.specs.Curve as rules
 use Rattle.book.specs.declared.Loaded.{Loaded}
 use Rattle.curve.specs.Levers.{Holds}
 use Rattle.curve.proofs.loading.weigh.Reads as weigh
+use Rattle.curve.proofs.loading.Weighed.fault.Reads as weighed-fault
 use Rattle.curve.proofs.table.loaded.Reads as loaded
 use Rattle.curve.proofs.levers.curve.Reads as curve
 use Rattle.curve.proofs.levers.areas.Reads as areas
@@ -18,6 +19,9 @@ use Rattle.curve.proofs.searches.stays.Reads as stays
 
 pub weigh-one : (κs a r r′ s s′ : _) → weigh.Post κs a r s → weigh.Post κs a r′ s′ → r ≡ r′
 weigh-one κs a r r′ s s′ p q = p ∙ sym q
+
+pub weighed-fault-one : (κs a r r′ s s′ : _) → weighed-fault.Post κs a r s → weighed-fault.Post κs a r′ s′ → r ≡ r′
+weighed-fault-one κs a r r′ s s′ p q = p ∙ sym q
 
 -- The loaded ship of the rules, as plain data: `loadedOf` loses nothing.
 abbrev plainLoaded : rules.Loaded → Loaded

@@ -7,9 +7,10 @@ use Rattle.rules.specs.Blocks.{Row}
 use Rattle.rules.specs.Layout.{Rising, Reading, fewestRows, mostRows}
 use Rattle.rules.specs.Outcome.{Ans, refused, got}
 use Rattle.rules.specs.Loading.{kgBy, weighedAt, weighed, displacement, correctedKG, entriesOf}
-use Rattle.book.specs.Book.{rowsOf, refusal, Refuses}
+use Rattle.book.specs.Book.{rowsOf, refusal, noRefusal, Refuses}
 use Rattle.book.specs.declared.Table.{Table}
 use Rattle.book.specs.declared.Sums.{Sums}
+use Rattle.book.specs.declared.Refusal.{Refusal}
 use Rattle.curve.specs.declared.loading.Weighed.{Weighed}
 use Rattle.curve.specs.declared.loading.Weighed.the-variants.{Fine, Refused}
 
@@ -40,6 +41,11 @@ weight w kg (got tt) = Fine w kg
 
 unfoldable pub weighedOf : List Row → Sums → Weighed
 weighedOf rows s = weight (s .mass) (kgOf s) (weighedAt rows (s .mass) (kgOf s))
+
+-- Its refusal, or none.
+abbrev pub weighedFault : Weighed → Refusal
+weighedFault (Fine w kg) = noRefusal
+weighedFault (Refused r) = r
 
 -- What an answer says of a reading.
 abbrev pub Weighs : Reading → Weighed → Type 0

@@ -3,7 +3,7 @@ ghost use mathlib.Core.Path.{_≡_};
 ghost use Prim.Native.Nat.{_<_};
 ghost use Rattle.rules.specs.Loading.{inTable};
 ghost use Rattle.book.specs.Book.{rowsOf, refusal};
-ghost use Rattle.curve.specs.Weighing.{Whole, InMachine, Sound, kgOf, weighedOf};
+ghost use Rattle.curve.specs.Weighing.{Whole, InMachine, Sound, kgOf, weighedOf, weighedFault};
 use book::Refusal;
 use book::Sums;
 use book::Table;
@@ -15,6 +15,18 @@ const GREATEST_KG: u64 = 60_000;
 pub enum Weighed {
     Fine { w: u64, kg: u64 },
     Refused(Refusal),
+}
+
+impl Weighed {
+    // The refusal, or none.
+    pub fn fault(self) -> Refusal
+        ensures { λ r. ⌜ r ≡ weighedFault self ⌝ }
+    {
+        match self {
+            Weighed::Fine { w: _, kg: _ } => book::NO_REFUSAL,
+            Weighed::Refused(r) => r,
+        }
+    }
 }
 
 // A refusal that has no place in the text.

@@ -3,7 +3,7 @@ use mathlib.Core.Path.{_≡_, refl, ap, sym, _∙_, subst}
 use mathlib.Core.Bool.{Bool, true, false}
 use Prim.Native.Nat.{ℕ, zero, suc, _+_, _-_, _*_, _/_, _%_, _≤_, _<_}
 use native.Mathlib.Omega.{arith}
-use native.Mathlib.Nat.{mul-le-mul, mul-le-mul-left, le-of-mul-le-mul-left, mod-lt, div-add-mod}
+use native.Mathlib.Nat.{mul-le-mul-left, le-of-mul-le-mul-left, mod-lt, div-add-mod}
 use native.Mathlib.Decide.{decLe}
 use lib.IntN.{ℤ, pos, negsuc, natAbs, negℤ, +ℤ-comm, _+ℤ_, _-ℤ_, _*ℤ_}
 use lib.Signed.{leZ}

@@ -1,10 +1,9 @@
 -- Criterion 7 at the exact heel: phi0 as used is no less than where the curve has lw1, by less than a tenth; so what passes at the one passes at the other.
 use mathlib.Core.Path.{_≡_}
-use mathlib.Core.Bool.{Bool, true, _&&_}
+use mathlib.Core.Bool.{true}
 use Prim.Native.Nat.{ℕ, _+_, _*_, _≤_, _<_}
 use native.Mathlib.Omega.{arith}
 use native.Mathlib.Nat.{mul-le-mul-left}
-use lib.Dec.{leb}
 use lib.IntN.{pos}
 use borrow.Author.Tests.{leb-true}
 use Rattle.rules.specs.Curve.{Loaded, y, E}

@@ -4,11 +4,10 @@ use Rattle.rules.specs.Layout.{Entries}
 use Rattle.rules.specs.Layout as rules
 use Rattle.rules.specs.Outcome.{Ans, refused, got, _>>=_}
 use Rattle.rules.specs.Walk as walk
-use Rattle.book.specs.Book.{refusal, plainWeather, sumsOf, plainRow, blankRow}
+use Rattle.book.specs.Book.{refusal, noRefusal, plainWeather, sumsOf, plainRow, blankRow}
 use Rattle.book.specs.declared.Refusal.{Refusal}
 use Rattle.book.specs.declared.Sums.{Sums}
 use Rattle.book.specs.declared.Weather.{Weather}
-use Rattle.blocks.specs.BlockAnswers.{noRefusal}
 use Rattle.frames.specs.Sums.{plus}
 use Rattle.frames.specs.declared.LoadRead.{LoadRead}
 use Rattle.frames.specs.declared.LoadRead.the-variants as load

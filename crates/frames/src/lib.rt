@@ -10,7 +10,6 @@ ghost use Rattle.rules.specs.Parts.{part, headAt};
 ghost use Rattle.blocks.specs.BlockAnswers.{shipRead};
 ghost use Rattle.frames.specs.Sums.{none, plus, Bounded};
 ghost use Rattle.frames.specs.FrameAnswers.{loadRead, loadFault, conditionFound, loaded, frameRead, rowFrame};
-use blocks::NO_REFUSAL;
 use blocks::entries::Block;
 use blocks::refusal;
 use blocks::row::RowAnswer;
@@ -41,7 +40,7 @@ impl LoadRead {
         ensures { λ r. ⌜ r ≡ loadFault self ⌝ }
     {
         match self {
-            LoadRead::Sum(_) => NO_REFUSAL,
+            LoadRead::Sum(_) => book::NO_REFUSAL,
             LoadRead::Refused(r) => r,
         }
     }

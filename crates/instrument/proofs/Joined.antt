@@ -19,17 +19,17 @@ use Rattle.rules.proofs.answer.Steps.{answered-refused, answered-read, judged-r
 use Rattle.rules.proofs.loading.Fair.{fair}
 use Rattle.rules.proofs.walk.WholeText.{sound}
 use Rattle.rules.proofs.answer.Placed.{place-within, place-short}
-use Rattle.book.specs.Book.{shipOf, weatherOf, rowsOf, loadedOf, judgementOf, refusal}
+use Rattle.book.specs.Book.{shipOf, weatherOf, rowsOf, loadedOf, judgementOf, refusal, Refuses}
 use Rattle.book.specs.declared.Table.{Table}
 use Rattle.book.specs.declared.Loaded as plain
 use Rattle.book.specs.declared.Judgement as plain′
 use Rattle.book.specs.declared.Refusal.{Refusal}
 use Rattle.book.specs.declared.Sums.{Sums}
-use Rattle.curve.specs.Weighing.{Whole, Sound, kgOf, weight, weighedOf, Weighs}
+use Rattle.curve.specs.Weighing.{Whole, Sound, kgOf, weight, weighedOf, weighedFault, Weighs}
 use Rattle.curve.specs.declared.loading.Weighed.{Weighed}
 use Rattle.curve.specs.declared.loading.Weighed.the-variants as weighing
 use Rattle.curve.proofs.Soundness as soundness
-use Rattle.reading.specs.TextAnswers.{plainReading, told}
+use Rattle.reading.specs.TextAnswers.{plainReading, told, answerFault}
 use Rattle.reading.specs.declared.Read.{Read}
 use Rattle.reading.specs.declared.Answer.{Answer}
 use Rattle.reading.specs.declared.Answer.the-variants as answer
@@ -37,14 +37,14 @@ use Rattle.reading.specs.declared.TextRead.{TextRead}
 use Rattle.instrument.specs.Sent.{Sent, Says, SentJudged, SentRead}
 
 -- 'For 7, 8 and 9 both are 0.'
-pub no-place : (rows : List Row) (s : Sums) (f : Refusal) → weighing.Refused f ≡ weighedOf rows s → (f .line ≡ 0) × (f .offset ≡ 0)
+pub no-place : (rows : List Row) (s : Sums) (w : Weighed) → w ≡ weighedOf rows s → (x f : Refusal) → w ≡ weighing.Refused x → f ≡ weighedFault w → (f .line ≡ 0) × (f .offset ≡ 0)
 unfolding weighedOf weighedAt test _>>_ _>>=_
-no-place rows s f e = go (inTable rows (s .mass)) (leb (kgOf s) greatestKG) e
+no-place rows s w e x f q p = rw (p ∙ ap weighedFault q) (go (inTable rows (s .mass)) (leb (kgOf s) greatestKG) (sym q ∙ e))
   where
-    of : (n : ℕ) → weighing.Refused f ≡ weighing.Refused (refusal n 0 0) → (f .line ≡ 0) × (f .offset ≡ 0)
-    of n e = let q : f ≡ refusal n 0 0 = cc in rw q (refl, refl)
+    of : (n : ℕ) → weighing.Refused x ≡ weighing.Refused (refusal n 0 0) → (x .line ≡ 0) × (x .offset ≡ 0)
+    of n e = let q : x ≡ refusal n 0 0 = cc in rw q (refl, refl)
 
-    go : (a b : Bool) → weighing.Refused f ≡ weight (s .mass) (kgOf s) (test a 7 0 0 >> test b 8 0 0) → (f .line ≡ 0) × (f .offset ≡ 0)
+    go : (a b : Bool) → weighing.Refused x ≡ weight (s .mass) (kgOf s) (test a 7 0 0 >> test b 8 0 0) → (x .line ≡ 0) × (x .offset ≡ 0)
     go true true e = let z : _≡_ {A = ℕ} 0 1 = cc in absurd (omega arith)
     go true false e = of 8 e
     go false b e = of 7 e
@@ -61,8 +61,11 @@ module _ (r : Reading) (x : Read) (t : Table) (T : Says r x t) where
   weighs-of w e = rw (e, T .plain, T .rows) (soundness.reading-weighs r)
 
   -- 7 or 8.
-  pub sent-weighed : (f : Refusal) → weighing.Refused f ≡ weighedOf (rowsOf t) (x .sums) → {before after : List ℕ} {n : ℕ} → Sent (refused (f .number) (f .line) (f .offset)) before n after → Sent (judged r) before n after
-  sent-weighed f e s = rw (judged-refused r (weighs-of (weighing.Refused f) e)) s
+  pub sent-weighed : (w : Weighed) → w ≡ weighedOf (rowsOf t) (x .sums) → (y f : Refusal) → w ≡ weighing.Refused y → f ≡ weighedFault w
+      → {before after : List ℕ} {n : ℕ} → Sent (refused (f .number) (f .line) (f .offset)) before n after → Sent (judged r) before n after
+  sent-weighed w e y f q p s =
+      let is : Refuses (weighed r) f = rw (p ∙ ap weighedFault q) (weighs-of (weighing.Refused y) (sym q ∙ e)) in
+      rw (judged-refused r is) s
 
   module _ (w kg : ℕ) (e : weighing.Fine w kg ≡ weighedOf (rowsOf t) (x .sums)) where
     fine : (weighed r ≡ got tt) × (w ≡ displacement (entriesOf r)) × (kg ≡ correctedKG (entriesOf r))
@@ -84,16 +87,16 @@ module _ (r : Reading) (x : Read) (t : Table) (T : Says r x t) where
 
 -- ---- a text that was read, or refused
 module _ (t : List ℕ) (x : TextRead) (e : x ≡ told (read t)) where
-  pub refused-read : (f : Refusal) → x .answer ≡ answer.Refused f → read t ≡ refused (f .number) (f .line) (f .offset)
-  refused-read f p = go (read t) refl
+  pub refused-read : (y f : Refusal) → x .answer ≡ answer.Refused y → f ≡ answerFault (x .answer) → read t ≡ refused (f .number) (f .line) (f .offset)
+  refused-read y f p is = rw (is ∙ ap answerFault p) (go (read t) refl)
     where
-      go : (a : Ans Reading) → read t ≡ a → read t ≡ refused (f .number) (f .line) (f .offset)
+      go : (a : Ans Reading) → read t ≡ a → read t ≡ refused (y .number) (y .line) (y .offset)
       go (refused n l o) q =
-          let u : _≡_ {A = Answer} (answer.Refused (record { number = n; line = l; offset = o })) (answer.Refused f) = sym (ap (λ (y : TextRead). y .answer) (e ∙ ap told q)) ∙ p in
-          let v : _≡_ {A = Refusal} (record { number = n; line = l; offset = o }) f = cc in
+          let u : _≡_ {A = Answer} (answer.Refused (record { number = n; line = l; offset = o })) (answer.Refused y) = sym (ap (λ (y : TextRead). y .answer) (e ∙ ap told q)) ∙ p in
+          let v : _≡_ {A = Refusal} (record { number = n; line = l; offset = o }) y = cc in
           rw (← v) q
       go (got r) q =
-          let u : _≡_ {A = Answer} (answer.Whole (plainReading r)) (answer.Refused f) = sym (ap (λ (y : TextRead). y .answer) (e ∙ ap told q)) ∙ p in
+          let u : _≡_ {A = Answer} (answer.Whole (plainReading r)) (answer.Refused y) = sym (ap (λ (y : TextRead). y .answer) (e ∙ ap told q)) ∙ p in
           let z : _≡_ {A = ℕ} 0 1 = cc in absurd (omega arith)
 
   pub whole-read : (w : Read) → x .answer ≡ answer.Whole w → (r : Reading) × (read t ≡ got r) × Says r w (x .table)
@@ -109,8 +112,8 @@ module _ (t : List ℕ) (x : TextRead) (e : x ≡ told (read t)) where
           (r, q, record { limits = sound t r q .0; plain = sym v; rows = ap (λ (y : TextRead). y .table) (e ∙ ap told q) })
 
   -- The place fits the report's two bytes for each.
-  pub place-fits : (f : Refusal) → x .answer ≡ answer.Refused f → (f .line < 65536) × (f .offset < 65536)
-  place-fits f p = place-short (place-within t (f .number) (f .line) (f .offset) (answered-refused t (refused-read f p)))
+  pub place-fits : (y f : Refusal) → x .answer ≡ answer.Refused y → f ≡ answerFault (x .answer) → (f .line < 65536) × (f .offset < 65536)
+  place-fits y f p is = place-short (place-within t (f .number) (f .line) (f .offset) (answered-refused t (refused-read y f p is)))
 
 -- ---- what is sent back
 module _ (t before after : List ℕ) (n : ℕ) (h : reportLength ≤ length before) where

@@ -69,12 +69,12 @@ module _ (text before : List ℕ) (n : ℕ) (after : List ℕ) (run : Judges tex
     pub refusal-placed : 1 ≤ n → (l : ℕ) × (o : ℕ) × (take reportLength after ≡ report n l o noJudgement) × Placed text n l o
     refusal-placed = replies.placed-sent text before n after (settled .0) (settled .1) room
 
-    -- The number is 1 exactly when the text is over 12,000 characters, and then the report has line 0, or has within them a line that is none, and then the report has the first such line.
-    pub one-iff-no-line : (n ≡ 1) ↔ ((l : ℕ) × NoLineAt text l × (take reportLength after ≡ report 1 l 0 noJudgement))
+    -- The number is 1 exactly when the text is over 12,000 characters or has within them a line that is none; then the report has line 0, or the first such line.
+    pub one-iff-no-line : ((n ≡ 1) ↔ ((l : ℕ) × NoLineAt text l)) × ((l : ℕ) → NoLineAt text l → take reportLength after ≡ report 1 l 0 noJudgement)
     one-iff-no-line = replies.no-line-sent text before n after (settled .0) (settled .1) room
 
-    -- The number is 2 exactly when the text is lines, within 12,000 characters, in which a block is met that runs past its parent; and the report has that block's line and offset.
-    pub two-iff-overrun : (n ≡ 2) ↔ ((l : ℕ) × (o : ℕ) × OverrunAt text l o × (take reportLength after ≡ report 2 l o noJudgement))
+    -- The number is 2 exactly when the text is lines, within 12,000 characters, in which a block is met that runs past its parent; then the report has that block's line and offset.
+    pub two-iff-overrun : ((n ≡ 2) ↔ ((l : ℕ) × (o : ℕ) × OverrunAt text l o)) × ((l o : ℕ) → OverrunAt text l o → take reportLength after ≡ report 2 l o noJudgement)
     two-iff-overrun = replies.overrun-sent text before n after (settled .0) (settled .1) room
 
     -- ---- demand 2: the figures are those of the reading

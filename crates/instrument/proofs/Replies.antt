@@ -15,7 +15,7 @@ use Rattle.rules.specs.Rounding.{ceil}
 use Rattle.rules.specs.Numbers.{digits, twos}
 use Rattle.rules.specs.Text.{hex}
 use Rattle.rules.specs.Layout.{Reading, Allowed, mostCharacters}
-use Rattle.rules.specs.Outcome.{Ans, refused, got, test, _>>_}
+use Rattle.rules.specs.Outcome.{Ans, refused, got, test}
 use Rattle.rules.specs.Walk.{read}
 use Rattle.rules.specs.Leaves.{sumLeaves, SameSums}
 use Rattle.rules.specs.Columns.{figureIn}
@@ -189,31 +189,31 @@ module _ (t before : List ℕ) (n : ℕ) (after : List ℕ) (N : n ≡ number t 
         (λ m l o e. let s = refusal-sent m l o e in f l o (rw (s .0) e) (rw (s .0) (s .1)))
         (λ r e. read-by r e (λ _ q. absurd (omega arith)) (λ _ q. absurd (omega arith)) (λ _ q. absurd (omega arith)))
 
-    pub overrun-sent : (n ≡ 2) ↔ ((l : ℕ) × (o : ℕ) × OverrunAt t l o × (take reportLength after ≡ report 2 l o noJudgement))
-    overrun-sent = (
-      λ z. by-refusal (omega arith) (omega arith) (λ l o e s. (l, o, found l o (rw z at e), rw z at s)),
-      λ x. let v = x .2 in refusal-sent 2 (x .0) (x .1) (rw (v .2) at (two-overrun (v .0) (v .1) (rw (v .2) (v .3)) (x .0) (x .1) .1 (v .4, v .5, v .6))) .0,
-    )
+    pub overrun-sent : ((n ≡ 2) ↔ ((l : ℕ) × (o : ℕ) × OverrunAt t l o)) × ((l o : ℕ) → OverrunAt t l o → take reportLength after ≡ report 2 l o noJudgement)
+    overrun-sent = ((λ z. by-refusal (omega arith) (omega arith) (λ l o e _. (l, o, found l o (rw z at e))), λ x. sent (x .0) (x .1) (x .2) .0), λ l o v. sent l o v .1)
       where
+        sent : (l o : ℕ) → OverrunAt t l o → (n ≡ 2) × (take reportLength after ≡ report 2 l o noJudgement)
+        sent l o v = refusal-sent 2 l o (rw (v .2) at (two-overrun (v .0) (v .1) (rw (v .2) (v .3)) l o .1 (v .4, v .5, v .6)))
+
         found : (l o : ℕ) → read t ≡ refused 2 l o → OverrunAt t l o
         found l o e =
             let f = lines-unless-one t 2 l o e (λ z. omega arith) in
             let m = two-overrun (f .0) (f .1) (rw (f .2) (f .3)) l o .0 (rw (f .2) e) in
             (f .0, f .1, f .2, f .3, m .0, m .1, m .2)
 
-    pub no-line-sent : (n ≡ 1) ↔ ((l : ℕ) × NoLineAt t l × (take reportLength after ≡ report 1 l 0 noJudgement))
+    pub no-line-sent : ((n ≡ 1) ↔ ((l : ℕ) × NoLineAt t l)) × ((l : ℕ) → NoLineAt t l → take reportLength after ≡ report 1 l 0 noJudgement)
     no-line-sent = (
-      λ z. by-refusal (omega arith) (omega arith) (λ l o e s. found l o (decLe (length t) mostCharacters) (rw z at e) (rw z at s)),
-      λ x. ⊎-elim (λ v. refusal-sent 1 0 0 (one-too-long t .1 (v .0)) .0) (λ v. refusal-sent 1 (x .0) 0 (one-no-line t (v .0) (x .0) 0 .1 (refl, v .1)) .0) (x .1),
+      (λ z. by-refusal (omega arith) (omega arith) (λ l o e _. (l, found l o (decLe (length t) mostCharacters) (rw z at e))), λ x. sent (x .0) (x .1) .0),
+      λ l v. sent l v .1,
     )
       where
-        found : (l o : ℕ) → Dec (length t ≤ mostCharacters) → read t ≡ refused 1 l o → take reportLength after ≡ report 1 l o noJudgement → (l : ℕ) × NoLineAt t l × (take reportLength after ≡ report 1 l 0 noJudgement)
-        found l o (yes short) e s = let m = one-no-line t short l o .0 e in (l, inr (short, m .1), rw (m .0) at s)
-        found l o (no long) e s =
-            let q = one-too-long t .1 (let k : mostCharacters < length t = omega arith in k) in
-            let u : l ≡ 0 = cc in
-            let w : o ≡ 0 = cc in
-            (l, inl (omega arith, u), rw w at s)
+        sent : (l : ℕ) → NoLineAt t l → (n ≡ 1) × (take reportLength after ≡ report 1 l 0 noJudgement)
+        sent l (inl v) = refusal-sent 1 l 0 (rw (v .1) (one-too-long t .1 (omega (arith, v .0))))
+        sent l (inr v) = refusal-sent 1 l 0 (one-no-line t (v .0) l 0 .1 (refl, v .1))
+
+        found : (l o : ℕ) → Dec (length t ≤ mostCharacters) → read t ≡ refused 1 l o → NoLineAt t l
+        found l o (yes short) e = inr (short, one-no-line t short l o .0 e .1)
+        found l o (no long) e = let q = one-too-long t .1 (let k : mostCharacters < length t = omega arith in k) in inl (omega arith, (let u : l ≡ 0 = cc in u))
 
     pub unrefused : ((¬ ((1 ≤ n) × (n ≤ 6))) × (n ≢ 9)) ↔ Allowed t
     unrefused = (

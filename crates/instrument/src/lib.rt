@@ -54,13 +54,11 @@ fn judge_reading(read: reading::Read, table: book::Table, report: &mut [u8]) -> 
     ensures { λ r. ⌜ SentRead read table (now (report .entry)) r (now (report .exit)) ⌝ }
 {
     let weighed = curve::loading::weigh(read.sums, table);
-    match weighed {
-        curve::loading::Weighed::Refused(refusal) => refuse(refusal, report),
-        curve::loading::Weighed::Fine { w, kg } => {
-            let loaded = curve::table::loaded(read.ship, read.weather, table, w, kg);
-            send(criteria::judge(loaded), report)
-        }
-    }
+    let curve::loading::Weighed::Fine { w, kg } = weighed else {
+        return refuse(weighed.fault(), report);
+    };
+    let loaded = curve::table::loaded(read.ship, read.weather, table, w, kg);
+    send(criteria::judge(loaded), report)
 }
 
 // The number of document 01 (0 to 9). The report's 209 characters stand at the front of the buffer, or nothing is written where it has no room for them.
@@ -74,10 +72,10 @@ pub fn judge(text: &[u8], report: &mut [u8]) -> u8
     let read = reading::read_text(text);
     let answer = read.answer;
     let table = read.table;
-    match answer {
-        reading::Answer::Refused(refusal) => refuse(refusal, report),
-        reading::Answer::Whole(whole) => judge_reading(whole, table, report),
-    }
+    let reading::Answer::Whole(whole) = answer else {
+        return refuse(answer.fault(), report);
+    };
+    judge_reading(whole, table, report)
 }
 
 // `judge`, for C and Rust to call.

@@ -2,9 +2,10 @@
 use mathlib.Core.List.{[]}
 use Rattle.rules.specs.Layout.{Reading}
 use Rattle.rules.specs.Outcome.{Ans, refused, got}
-use Rattle.book.specs.Book.{refusal, plainShip, plainWeather, tableOf, sumsOf}
+use Rattle.book.specs.Book.{refusal, noRefusal, plainShip, plainWeather, tableOf, sumsOf}
 use Rattle.book.specs.declared.Refusal.{Refusal}
 use Rattle.reading.specs.declared.Read.{Read}
+use Rattle.reading.specs.declared.Answer.{Answer}
 use Rattle.reading.specs.declared.Answer.the-variants as answer
 use Rattle.reading.specs.declared.TextRead.{TextRead}
 
@@ -17,3 +18,8 @@ refusedRead r = record { answer = answer.Refused r; table = tableOf [] }
 abbrev pub told : Ans Reading → TextRead
 told (refused n l o) = refusedRead (refusal n l o)
 told (got r) = record { answer = answer.Whole (plainReading r); table = tableOf (r .rows) }
+
+-- The refusal of an answer, or none.
+abbrev pub answerFault : Answer → Refusal
+answerFault (answer.Whole r) = noRefusal
+answerFault (answer.Refused r) = r

@@ -5,7 +5,7 @@ ghost use Prim.Native.Nat.{_≤_};
 ghost use Rattle.rules.specs.Walk.{header, read};
 ghost use Rattle.book.specs.Book.{tableOf};
 ghost use Rattle.cursor.specs.BlockParts.{headOf};
-ghost use Rattle.reading.specs.TextAnswers.{told, refusedRead};
+ghost use Rattle.reading.specs.TextAnswers.{told, refusedRead, answerFault};
 ghost use Rattle.reading.specs.Moved.{rowless, afterShip, afterFound, afterWhole, moved, finished};
 use blocks::refusal;
 use blocks::ship::ShipRead;
@@ -45,6 +45,18 @@ pub struct Moved {
 pub enum Answer {
     Whole(Read),
     Refused(book::Refusal),
+}
+
+impl Answer {
+    // The refusal, or none.
+    pub fn fault(self) -> book::Refusal
+        ensures { λ r. ⌜ r ≡ answerFault self ⌝ }
+    {
+        match self {
+            Answer::Whole(_) => book::NO_REFUSAL,
+            Answer::Refused(r) => r,
+        }
+    }
 }
 
 // What was read, and the table beside it, which is blank on a refusal.

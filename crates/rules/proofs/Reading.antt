@@ -70,7 +70,7 @@ grouping-free r F G e = judged-same r F G e
 pub two-iff-overrun : (ls : List (List ℕ)) → Lines ls → length (text ls) ≤ mostCharacters → (ln o : ℕ) → (read (text ls) ≡ refused 2 ln o) ↔ ((left : List ℕ) × Met ls ln o left × Overruns left)
 two-iff-overrun ls B l ln o = two-overrun ls B l ln o
 
--- So, whatever else a text holds: where such a block is met, the answer is refusal 2 at that block's line and offset.
+-- So, whatever else such a text holds: where such a block is met, the answer is refusal 2 at that block's line and offset.
 pub overrun-refused : (ls : List (List ℕ)) (ln o : ℕ) (left : List ℕ) → Lines ls → length (text ls) ≤ mostCharacters → Met ls ln o left → Overruns left → read (text ls) ≡ refused 2 ln o
 overrun-refused ls ln o left B l m v = two-iff-overrun ls B l ln o .1 (left, m, v)
 

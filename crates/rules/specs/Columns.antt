@@ -7,18 +7,6 @@ use lib.ListN.{take, drop}
 abbrev pub characters : ℕ → ℕ → List ℕ → List ℕ
 characters at n s = take n (drop at s)
 
-abbrev pub refusalIn : List ℕ → List ℕ
-refusalIn s = characters 6 2 s
-
-abbrev pub lineIn : List ℕ → List ℕ
-lineIn s = characters 8 4 s
-
-abbrev pub offsetIn : List ℕ → List ℕ
-offsetIn s = characters 12 4 s
-
--- Verdict i and figure i, counted from 0.
-abbrev pub verdictIn : ℕ → List ℕ → List ℕ
-verdictIn i s = characters (16 + 2 * i) 2 s
-
+-- Figure i, counted from 0: behind the 32 characters of tag, length, refusal, line, offset and verdicts.
 abbrev pub figureIn : ℕ → List ℕ → List ℕ
 figureIn i s = characters (32 + 16 * i) 16 s

@@ -38,7 +38,7 @@ use denote.Exit.{yes}
 use denote.Triple.Clauses.{ensured, lasts}
 use Rattle.rules.specs.Walk.{header}
 use Rattle.cursor.specs.BlockParts.{headOf, starts, bytesOf}
-use Rattle.cursor.specs.Readers.{Opened, Begins, Moved}
+use Rattle.cursor.specs.Readers.{Opened, Begins, OverPart}
 use Rattle.cursor.specs.declared.Reader.{Reader}
 use Rattle.cursor.specs.declared.Part.{Part}
 use Rattle.cursor.specs.declared.Head.{Head}
@@ -106,8 +106,8 @@ module _ {M : Type 1} (𝓤 : URA M) (H : Heap 𝓤) (A : Atoms 𝓤) (W : Given
       qed W (‵ (Own κ r u) ∷ (‵ (flft κ q) ⊛ ‵ ftrue) ∷ []) ∵ says ! g $ move ! (1 ∷ []) $ frame ! $ nothing ! $ owned ! usize (Is usize) (uint-makes 𝓤 H A W w64) len _ (refl, len-fits) $ fjoin ! $
       owned ! P.the-row (Is P.the-row) (EL.makes P.the-type P′.the-plain 𝓤 H A) p _ p-is $ fjoin ! $ move ! (1 ∷ 0 ∷ []) $ fjoin ! $ done !
 
-  over-said : (r r′ : Reader) → ent 𝓤 (ensured 𝓤 H A over.ended (over.clauses 𝓤 H A mem run) (κ, tt) (r, (p, (len, tt))) tt r′) (fact 𝓤 (Moved r p len r′))
-  over-said r r′ = exE 𝓤 _ (λ ws. snd∗ 𝓤 (sem 𝓤 H A (lasts over.ended (κ, tt) (r, (p, (len, tt))) ws)) (fact 𝓤 (Moved r p len r′)))
+  over-said : (r r′ : Reader) → ent 𝓤 (ensured 𝓤 H A over.ended (over.clauses 𝓤 H A mem run) (κ, tt) (r, (p, (len, tt))) tt r′) (fact 𝓤 (OverPart r p len r′))
+  over-said r r′ = exE 𝓤 _ (λ ws. snd∗ 𝓤 (sem 𝓤 H A (lasts over.ended (κ, tt) (r, (p, (len, tt))) ws)) (fact 𝓤 (OverPart r p len r′)))
 
   exits : (h : Head) (u : Val) → h ≡ found → ent 𝓤 (⋆ 𝓤 H A (‵ (S.the-row .own h (u ∷ [])) ∷ (‵ (flft κ q) ⊛ ‵ ftrue) ∷ ‵ (Slice κ s (value s)) ∷ [])) (Post u)
   exits h u e =
@@ -133,7 +133,7 @@ module _ {M : Type 1} (𝓤 : URA M) (H : Heap 𝓤) (A : Atoms 𝓤) (W : Given
         use2 W (raw (Over 𝓤 H A mem run .pre (to-over r u))) (goes-over r u (opened-inside s l n r o len g)) $
         calls-at ! fm (Over 𝓤 H A mem run) known-over (to-over r u) (and-then ! (load ! (from ! (stop !)) (look ! 2 refl)) (and-then ! (load ! (from ! (stop !)) (look ! 8 refl)) (and-then ! (load ! (from ! (stop !)) (look ! 6 refl)) (no-more !)))) (λ u′.
         use1 W (later (some (λ (r′ : Reader). ((‵ (flft κ q) ⊛ ‵ ftrue) ⊛ ‵ (Own κ r′ u′)) ⊛ raw (ensured 𝓤 H A over.ended (over.clauses 𝓤 H A mem run) (κ, tt) (r, (p, (len, tt))) tt r′)))) (id⊢ 𝓤 _) $ await ! tt $ pick ! (λ r′.
-        split ! $ move ! (1 ∷ []) $ use1 W (raw (fact 𝓤 (Moved r p len r′))) (over-said r r′) $ heard ! (Moved r p len r′) (λ m. split ! $ move ! (1 ∷ []) $
+        split ! $ move ! (1 ∷ []) $ use1 W (raw (fact 𝓤 (OverPart r p len r′))) (over-said r r′) $ heard ! (OverPart r p len r′) (λ m. split ! $ move ! (1 ∷ []) $
         peeks ! (B (κ, tt)) (Is (B (κ, tt))) (shows 𝓤 H A (B (κ, tt))) r′ (u′ ∷ []) (λ is′.
         land ! (from ! (stop !)) (init ! 5 refl (LL.lawful (T.the-type αᵉ) (T′.the-laws αᵉ) 𝓤 H A W .typed r′ _ is′ .0)) $
         use2 W (raw (Begun 𝓤 H A mem run .pre (to-begins 𝓤 H A W mem run κ q r′ u′))) (goes-begins 𝓤 H A W mem run κ q r′ u′) $

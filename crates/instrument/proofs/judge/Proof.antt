@@ -16,29 +16,33 @@ read-text-requires c κs = search needs
 enum-known-answer : tie.Need-enum-known-answer
 enum-known-answer c = search needs
 
+enum-told : tie.Need-enum-told
+enum-told c = search needs
+
+fault-requires : tie.Need-fault-requires
+fault-requires c κs = search needs
+
 refuse-requires : tie.Need-refuse-requires
 refuse-requires c κs =
-    let m = c .before .before in
-    (search needs, place-fits _ _ (m .before .before .before .read-text .ensures) _ (m .answer .given .1))
-
-enum-known-answer-2 : tie.Need-enum-known-answer-2
-enum-known-answer-2 c = search needs
-
-judge-reading-requires : tie.Need-judge-reading-requires
-judge-reading-requires c κs =
-    let m = c .before .before in
-    let w = whole-read _ _ (m .before .before .before .read-text .ensures) _ (m .answer2 .given .1) in
-    (search needs, (w .0, w .2))
+    let f = c .before in
+    let m = f .before in
+    (search needs, place-fits _ _ (m .before .before .before .read-text .ensures) _ _ (m .enum-told .given .1) (f .fault .ensures))
 
 same-length : tie.Need-same-length
 same-length c = search needs
 
 returns-2 : tie.Need-returns-2
 returns-2 c =
-    let f = c .before .before in
-    let m = f .before .before .before in
-    let r = m .before .before .before in
-    sent-refused _ _ _ _ (search needs) _ (refused-read _ _ (r .read-text .ensures) _ (m .answer .given .1)) (f .refuse .ensures)
+    let r = c .before .before in
+    let f = r .before .before in
+    let m = f .before in
+    sent-refused _ _ _ _ (search needs) _ (refused-read _ _ (m .before .before .before .read-text .ensures) _ _ (m .enum-told .given .1) (f .fault .ensures)) (r .refuse .ensures)
+
+judge-reading-requires : tie.Need-judge-reading-requires
+judge-reading-requires c κs =
+    let m = c .before .before in
+    let w = whole-read _ _ (m .before .before .before .read-text .ensures) _ (m .answer .given .1) in
+    (search needs, (w .0, w .2))
 
 same-length-2 : tie.Need-same-length-2
 same-length-2 c = search needs
@@ -48,7 +52,7 @@ returns-3 c =
     let f = c .before .before in
     let m = f .before .before .before in
     let r = m .before .before .before in
-    let w = whole-read _ _ (r .read-text .ensures) _ (m .answer2 .given .1) in
+    let w = whole-read _ _ (r .read-text .ensures) _ (m .answer .given .1) in
     sent-read _ _ _ _ (search needs) (w .0) _ _ (w .1) (w .2) (f .judge-reading .ensures)
 
 pub judge-spec : {M : Type 1} → statement M
@@ -58,10 +62,11 @@ judge-spec =
     returns
     read-text-requires
     enum-known-answer
+    enum-told
+    fault-requires
     refuse-requires
-    enum-known-answer-2
-    judge-reading-requires
     same-length
     returns-2
+    judge-reading-requires
     same-length-2
     returns-3)

@@ -12,38 +12,43 @@ weigh-requires c κs = let T = c .before .pre .1 in sound-of (T .0) _ _ (T .1)
 enum-known-weighed : tie.Need-enum-known-weighed
 enum-known-weighed c = search needs
 
+enum-told : tie.Need-enum-told
+enum-told c = search needs
+
+fault-requires : tie.Need-fault-requires
+fault-requires c κs = search needs
+
 refuse-requires : tie.Need-refuse-requires
 refuse-requires c κs =
-    let m = c .before .before in
-    let z = no-place _ _ _ (sym (m .weighed .given .1) ∙ m .before .before .weigh .ensures) in
+    let f = c .before in
+    let m = f .before in
+    let z = no-place _ _ _ (m .before .before .weigh .ensures) _ _ (m .enum-told .given .1) (f .fault .ensures) in
     (search needs, (omega (arith, z .0), omega (arith, z .1)))
-
-enum-known-weighed-2 : tie.Need-enum-known-weighed-2
-enum-known-weighed-2 c = search needs
-
-loaded-requires : tie.Need-loaded-requires
-loaded-requires c κs =
-    let m = c .before in
-    let T = m .before .before .before .before .pre .1 in
-    (whole-of (T .0) _ _ (T .1), in-table (T .0) _ _ (T .1) _ _ (sym (m .weighed2 .given .1) ∙ m .before .before .weigh .ensures))
-
-judge-requires : tie.Need-judge-requires
-judge-requires c κs =
-    let m = c .before .before in
-    let T = m .before .before .before .before .pre .1 in
-    fair-of (T .0) _ _ (T .1) _ _ (sym (m .weighed2 .given .1) ∙ m .before .before .weigh .ensures) (c .loaded .result) (c .loaded .ensures)
-
-send-requires : tie.Need-send-requires
-send-requires c κs = search needs
 
 same-length : tie.Need-same-length
 same-length c = search needs
 
 returns : tie.Need-returns
 returns c = λ r T.
-    let f = c .before .before in
-    let m = f .before .before .before in
-    sent-weighed r _ _ T (m .weighed .given .0 .0) (sym (m .weighed .given .1) ∙ m .before .before .weigh .ensures) (f .refuse .ensures)
+    let s = c .before .before in
+    let f = s .before .before in
+    let m = f .before in
+    sent-weighed r _ _ T _ (m .before .before .weigh .ensures) _ _ (m .enum-told .given .1) (f .fault .ensures) (s .refuse .ensures)
+
+loaded-requires : tie.Need-loaded-requires
+loaded-requires c κs =
+    let m = c .before in
+    let T = m .before .before .before .before .pre .1 in
+    (whole-of (T .0) _ _ (T .1), in-table (T .0) _ _ (T .1) _ _ (sym (m .weighed .given .1) ∙ m .before .before .weigh .ensures))
+
+judge-requires : tie.Need-judge-requires
+judge-requires c κs =
+    let m = c .before .before in
+    let T = m .before .before .before .before .pre .1 in
+    fair-of (T .0) _ _ (T .1) _ _ (sym (m .weighed .given .1) ∙ m .before .before .weigh .ensures) (c .loaded .result) (c .loaded .ensures)
+
+send-requires : tie.Need-send-requires
+send-requires c κs = search needs
 
 same-length-2 : tie.Need-same-length-2
 same-length-2 c = search needs
@@ -54,7 +59,7 @@ returns-2 c = λ r T.
     let j = f .before .before in
     let l = j .before in
     let m = l .before .before in
-    sent-loaded r _ _ T _ _ (sym (m .weighed2 .given .1) ∙ m .before .before .weigh .ensures) (l .loaded .result) (l .loaded .ensures) (j .judge .result) (j .judge .ensures) (f .send .ensures)
+    sent-loaded r _ _ T _ _ (sym (m .weighed .given .1) ∙ m .before .before .weigh .ensures) (l .loaded .result) (l .loaded .ensures) (j .judge .result) (j .judge .ensures) (f .send .ensures)
 
 pub judge-reading-spec : {M : Type 1} → statement M
 judge-reading-spec =
@@ -62,12 +67,13 @@ judge-reading-spec =
     (tie.spec
     weigh-requires
     enum-known-weighed
+    enum-told
+    fault-requires
     refuse-requires
-    enum-known-weighed-2
+    same-length
+    returns
     loaded-requires
     judge-requires
     send-requires
-    same-length
-    returns
     same-length-2
     returns-2)

@@ -1,16 +1,16 @@
 -- What stands in each column of a report: its refusal, line and offset, each verdict and each figure.
-use mathlib.Core.Path.{_≡_, refl, ap, sym, _∙_}
+use mathlib.Core.Path.{_≡_, refl, ap, _∙_}
 use mathlib.Core.List.{List, [], _∷_, _++_, map}
 use Prim.Native.Nat.{ℕ, zero, suc, _+_, _*_, _≤_, _<_}
 use native.Mathlib.Omega.{arith}
 use lib.IntN.{ℤ, pos}
 use lib.ListN.{length, take, drop, getD, length-drop}
-use lib.Seq.{take-at, take-append-le, drop-append-le, drop-append-add, drop-drop, drop-cons}
+use lib.Seq.{take-at, take-append-le, drop-append-le, drop-append-add, drop-drop}
 use Rattle.rules.specs.Numbers.{digits, twos}
 use Rattle.rules.specs.Text.{LF, hex}
 use Rattle.rules.specs.Blocks.{block}
 use Rattle.rules.specs.Report.{concat, reportTag, reportBody, reportLine}
-use Rattle.rules.specs.Columns.{characters, refusalIn, lineIn, offsetIn, verdictIn, figureIn}
+use Rattle.rules.specs.Columns.{characters, figureIn}
 use Rattle.rules.proofs.layout.Lines.{length-hex}
 use Rattle.rules.proofs.layout.Numbers.{length-digits}
 use Rattle.rules.proofs.answer.Length.{frame-length}
@@ -59,18 +59,6 @@ module _ (number line offset : ℕ) (verdicts : List ℕ) (figures : List ℤ) (
   unfolding reportLine
   column a n h = hex-part frame (LF ∷ []) a n (omega (arith, long))
 
-  pub refusal-column : refusalIn (reportLine number line offset verdicts figures) ≡ hex (digits 1 number)
-  unfolding block reportBody digits
-  refusal-column = column 3 1 (omega arith)
-
-  pub line-column : lineIn (reportLine number line offset verdicts figures) ≡ hex (digits 2 line)
-  unfolding block reportBody digits
-  line-column = column 4 2 (omega arith)
-
-  pub offset-column : offsetIn (reportLine number line offset verdicts figures) ≡ hex (digits 2 offset)
-  unfolding block reportBody digits
-  offset-column = column 6 2 (omega arith)
-
   -- Behind the head stand the verdicts, and then the figures.
   abbrev G : List ℕ
   G = concat (map (λ z. digits 8 (twos z)) figures)
@@ -79,16 +67,10 @@ module _ (number line offset : ℕ) (verdicts : List ℕ) (figures : List ℤ) (
   unfolding block reportBody digits
   verdicts-behind = refl
 
-  verdict-behind : (i : ℕ) → i < 8 → drop (8 + i) frame ≡ getD verdicts i 0 ∷ (drop (suc i) verdicts ++ G)
-  verdict-behind i h = rw (← (drop-drop i 8 frame), verdicts-behind, drop-append-le i verdicts G (omega arith), drop-cons verdicts i 0 (omega arith))
-
   figure-behind : (i : ℕ) → drop (16 + 8 * i) frame ≡ drop (8 * i) G
   figure-behind i =
       let k : 16 + 8 * i ≡ 8 + (length verdicts + 8 * i) = omega arith in
       rw (k, ← (drop-drop (length verdicts + 8 * i) 8 frame), verdicts-behind) (drop-append-add verdicts G (8 * i))
-
-  pub verdict-column : (i : ℕ) → i < 8 → verdictIn i (reportLine number line offset verdicts figures) ≡ hex (getD verdicts i 0 ∷ [])
-  verdict-column i h = let e : 16 + 2 * i ≡ 2 * (8 + i) = omega arith in rw e (column (8 + i) 1 (omega arith) ∙ ap (λ (s : List ℕ). hex (take 1 s)) (verdict-behind i h))
 
   pub figure-column : (i : ℕ) → i < 11 → figureIn i (reportLine number line offset verdicts figures) ≡ hex (digits 8 (twos (getD figures i (pos 0))))
   figure-column i h =

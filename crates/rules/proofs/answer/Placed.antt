@@ -1,11 +1,13 @@
 -- The place of every refusal lies within the text; so line and offset fit the two bytes that the report has for each.
-use mathlib.Core.Path.{_≡_}
-use mathlib.Core.List.{List}
-use Prim.Native.Nat.{ℕ, _≤_, _<_}
+use mathlib.Core.Path.{_≡_, refl}
+use mathlib.Core.Logic.{_⊎_, inl, inr}
+use mathlib.Core.List.{List, []}
+use Prim.Native.Nat.{ℕ, _+_, _*_, _≤_, _<_}
+use lib.ListN.{length}
 use native.Mathlib.Omega.{arith}
 use Rattle.rules.specs.Layout.{Reading}
 use Rattle.rules.specs.Outcome.{refused}
-use Rattle.rules.specs.Places.{Placed, tooLong, atLine, emptyText, atByte, unweighed}
+use Rattle.rules.specs.Places.{LineAt, Placed, tooLong, atLine, emptyText, atByte, unweighed}
 use Rattle.rules.specs.Answer.{judged, answered}
 use Rattle.rules.proofs.layout.LineAt.{line-fits}
 use Rattle.rules.proofs.walk.Refusals.{Refusal, given, bind-refusal, test-refusal, last-refusal}
@@ -25,10 +27,25 @@ place-within t n l o e = placed .holds n l o e
     placed : Refusal (Placed t) (answered t)
     placed = rw (answered-steps t) (bind-refusal _ _ (read-placed t) (λ r er. judged-placed t r))
 
--- No line and no offset is more than there are characters.
+-- Line and offset fit two bytes each.
 pub place-short : {t : List ℕ} {n l o : ℕ} → Placed t n l o → (l < 65_536) × (o < 65_536)
 place-short (tooLong h) = omega arith
 place-short (atLine c x) = omega (arith, line-fits x)
 place-short (emptyText e) = omega arith
 place-short (atByte a b c x h) = omega (arith, line-fits x)
 place-short (unweighed a b) = omega arith
+
+-- Read the other way: 1 has offset 0; 2 to 6 name a byte of one of the text's own lines, and both its characters stand there, or the text is empty.
+pub one-at-front : {t : List ℕ} {n l o : ℕ} → Placed t n l o → n ≡ 1 → o ≡ 0
+one-at-front (tooLong h) e = refl
+one-at-front (atLine c x) e = refl
+one-at-front (emptyText z) e = refl
+one-at-front (atByte a b c x h) e = absurd (omega arith)
+one-at-front (unweighed a b) e = refl
+
+pub byte-of-line : {t : List ℕ} {n l o : ℕ} → Placed t n l o → 2 ≤ n → n ≤ 6 → (t ≡ []) ⊎ ((p : List ℕ) × LineAt t l p × (2 * o + 2 ≤ length p))
+byte-of-line (tooLong h) from to = absurd (omega arith)
+byte-of-line (atLine c x) from to = absurd (omega arith)
+byte-of-line (emptyText e) from to = inl e
+byte-of-line (atByte {p = p} a b c x h) from to = inr (p, x, omega arith)
+byte-of-line (unweighed a b) from to = absurd (omega arith)

@@ -1,6 +1,5 @@
 -- The answer step by step: the reading, then 7 and 8, then the judgement; and what is sent back of it, with room for the report and without.
 use mathlib.Core.Path.{_≡_, refl, ap, _∙_}
-use mathlib.Core.Bool.{Bool, true, false}
 use mathlib.Core.List.{List, _++_, map}
 use Prim.Native.Nat.{ℕ, _≤_, _<_}
 use lib.ListN.{length, drop}

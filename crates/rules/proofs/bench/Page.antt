@@ -1,9 +1,9 @@
--- The numbers of the report, of 'Loading and curve', of 'The eight criteria' and of 'Roll', restated from the page: each table as it is printed there, and each other number in a worked value that one more or one less would change.
+-- The numbers of the report, of 'Loading and curve', of 'The eight criteria' and of 'Roll', restated from the page: each table as it is printed there, and other numbers in worked values that one more or one less would change. (Those of p, r and phi1 are restated in criteria/Roll and rounding/Divisions.)
 use mathlib.Core.Path.{_≡_, refl}
-use mathlib.Core.Bool.{Bool, true, false}
+use mathlib.Core.Bool.{true, false}
 use mathlib.Core.List.{List, [], _∷_, map}
 use Prim.Native.Nat.{ℕ, _*_, _/_, _^_}
-use lib.IntN.{ℤ, pos, negℤ}
+use lib.IntN.{pos, negℤ}
 use lib.ListN.{length, getD, replicate}
 use Rattle.rules.specs.Rounding.{Point, point}
 use Rattle.rules.specs.Text.{LF, digit}
@@ -15,14 +15,14 @@ use Rattle.rules.specs.Report.{fail, pass, unjudged, void, verdictNumber
 use Rattle.rules.proofs.bench.Cases.{Case, gives, All}
 
 -- ---- the tables, in the page's own units: so many to one of the definitions'
-abbrev printed : ℕ → List (ℕ × ℕ) → List Point
-printed unit rows = map (λ r. point (unit * r .0) (r .1)) rows
+abbrev asPrinted : ℕ → List (ℕ × ℕ) → List Point
+asPrinted unit rows = map (λ r. point (unit * r .0) (r .1)) rows
 
 -- X1 by tenths of B/d, X2 by hundredths of CB, k by tenths of the keel index, s by seconds.
-pub tables-printed : (X1 ≡ printed 100 ((24, 1000) ∷ (25, 980) ∷ (26, 960) ∷ (27, 950) ∷ (28, 930) ∷ (29, 910) ∷ (30, 900) ∷ (31, 880) ∷ (32, 860) ∷ (34, 820) ∷ (35, 800) ∷ []))
-    × (X2 ≡ printed 10 ((45, 750) ∷ (50, 820) ∷ (55, 890) ∷ (60, 950) ∷ (65, 970) ∷ (70, 1000) ∷ []))
-    × (K ≡ printed 100 ((0, 1000) ∷ (10, 980) ∷ (15, 950) ∷ (20, 880) ∷ (25, 790) ∷ (30, 740) ∷ (35, 720) ∷ (40, 700) ∷ []))
-    × (S ≡ printed 100 ((6, 1000) ∷ (7, 980) ∷ (8, 930) ∷ (12, 650) ∷ (14, 530) ∷ (16, 440) ∷ (18, 380) ∷ (20, 350) ∷ []))
+pub tables-printed : (X1 ≡ asPrinted 100 ((24, 1000) ∷ (25, 980) ∷ (26, 960) ∷ (27, 950) ∷ (28, 930) ∷ (29, 910) ∷ (30, 900) ∷ (31, 880) ∷ (32, 860) ∷ (34, 820) ∷ (35, 800) ∷ []))
+    × (X2 ≡ asPrinted 10 ((45, 750) ∷ (50, 820) ∷ (55, 890) ∷ (60, 950) ∷ (65, 970) ∷ (70, 1000) ∷ []))
+    × (K ≡ asPrinted 100 ((0, 1000) ∷ (10, 980) ∷ (15, 950) ∷ (20, 880) ∷ (25, 790) ∷ (30, 740) ∷ (35, 720) ∷ (40, 700) ∷ []))
+    × (S ≡ asPrinted 100 ((6, 1000) ∷ (7, 980) ∷ (8, 930) ∷ (12, 650) ∷ (14, 530) ∷ (16, 440) ∷ (18, 380) ∷ (20, 350) ∷ []))
 tables-printed = (refl, refl, refl, refl)
 
 -- 'Sines in 1/100,000', by degrees.
@@ -63,8 +63,8 @@ abbrev curved : List ℕ → ℕ → Loaded
 curved kn flooding = afloat 0 1 1 0 0 kn flooding
 
 -- A lever of one metre from 5 degrees on; one that falls by 0.001 m each 5 degrees, from 13.
-abbrev flat : List ℕ
-flat = 0 ∷ replicate 12 1_000
+abbrev level : List ℕ
+level = 0 ∷ replicate 12 1_000
 
 abbrev falling : List ℕ
 falling = 13 ∷ 12 ∷ 11 ∷ 10 ∷ 9 ∷ 8 ∷ 7 ∷ 6 ∷ 5 ∷ 4 ∷ 3 ∷ 2 ∷ 1 ∷ []
@@ -76,20 +76,20 @@ page =
     -- 'y(-t) = -y(t).' 'Either becomes y units times 5,000,000.'
     ∷ gives (leverZ (0 ∷ 1 ∷ []) 0 (negℤ (pos 50)) ∷ units 1 ∷ []) (negℤ (pos 5_000_000) ∷ pos 5_000_000 ∷ [])
     -- 'One metre-degree is 10^11'; 'area .. 0 if q <= p'.
-    ∷ gives (area (y (curved flat 600)) (pos 50) (pos 60) ∷ area (y (curved flat 600)) (pos 60) (pos 50) ∷ []) (pos (10 ^ 11) ∷ pos 0 ∷ [])
+    ∷ gives (area (y (curved level 600)) (pos 50) (pos 60) ∷ area (y (curved level 600)) (pos 60) (pos 50) ∷ []) (pos (10 ^ 11) ∷ pos 0 ∷ [])
     -- Areas 0 to min(300, E), 300 to min(400, E), 0 to min(400, E), at E = 600, 399, 300 and 299.
-    ∷ gives (map (λ f. area1 (curved flat f)) (600 ∷ 399 ∷ 300 ∷ 299 ∷ [])) (pos 2_750_000_000_000 ∷ pos 2_750_000_000_000 ∷ pos 2_750_000_000_000 ∷ pos 2_740_000_000_000 ∷ [])
-    ∷ gives (map (λ f. area2 (curved flat f)) (600 ∷ 399 ∷ 300 ∷ 299 ∷ [])) (pos 1_000_000_000_000 ∷ pos 990_000_000_000 ∷ pos 0 ∷ pos 0 ∷ [])
-    ∷ gives (map (λ f. area3 (curved flat f)) (600 ∷ 399 ∷ 300 ∷ 299 ∷ [])) (pos 3_750_000_000_000 ∷ pos 3_740_000_000_000 ∷ pos 2_750_000_000_000 ∷ pos 2_740_000_000_000 ∷ [])
+    ∷ gives (map (λ f. area1 (curved level f)) (600 ∷ 399 ∷ 300 ∷ 299 ∷ [])) (pos 2_750_000_000_000 ∷ pos 2_750_000_000_000 ∷ pos 2_750_000_000_000 ∷ pos 2_740_000_000_000 ∷ [])
+    ∷ gives (map (λ f. area2 (curved level f)) (600 ∷ 399 ∷ 300 ∷ 299 ∷ [])) (pos 1_000_000_000_000 ∷ pos 990_000_000_000 ∷ pos 0 ∷ pos 0 ∷ [])
+    ∷ gives (map (λ f. area3 (curved level f)) (600 ∷ 399 ∷ 300 ∷ 299 ∷ [])) (pos 3_750_000_000_000 ∷ pos 3_740_000_000_000 ∷ pos 2_750_000_000_000 ∷ pos 2_740_000_000_000 ∷ [])
     -- 'Greatest y from 300 to E .. If E < 300: .. figure 0.' 'The first t in 0..E with the greatest y.'
     ∷ gives (map (λ f. greatestLever (curved falling f)) (600 ∷ 300 ∷ 299 ∷ [])) (pos 35_000_000 ∷ pos 35_000_000 ∷ pos 0 ∷ [])
-    ∷ gives (map (λ kn. pos (angleOfGreatest (curved kn 60))) (falling ∷ flat ∷ (0 ∷ 1 ∷ 2 ∷ []) ∷ [])) (pos 0 ∷ pos 50 ∷ pos 60 ∷ [])
+    ∷ gives (map (λ kn. pos (angleOfGreatest (curved kn 60))) (falling ∷ level ∷ (0 ∷ 1 ∷ 2 ∷ []) ∷ [])) (pos 0 ∷ pos 50 ∷ pos 60 ∷ [])
     -- 'GM = KM - KG', below zero too.
     ∷ gives (gm (afloat 0 1 1 7 3 [] 0) ∷ gm (afloat 0 1 1 3 7 [] 0) ∷ []) (pos 4 ∷ negℤ (pos 4) ∷ [])
     -- 'lw1 = 5040 x wind area x Z / (981 x W) .. lw2 = 3 lw1 / 2': of 981, 100,000 and 5,040.
     ∷ gives (pos (lw1 (curved [] 0)) ∷ pos (lw2 (curved [] 0)) ∷ []) (pos 100_000 ∷ pos 150_000 ∷ [])
     -- 'phi0 = first t in 0..E with y >= lw1 .. None: .. phi0 is -1': a lever of 100 m from 5 degrees on, E there, one tenth before, and a lever of one metre.
-    ∷ gives (phi0Figure (curved (0 ∷ 100_000 ∷ 100_000 ∷ []) 50) ∷ phi0Figure (curved (0 ∷ 100_000 ∷ 100_000 ∷ []) 49) ∷ phi0Figure (curved flat 600) ∷ []) (pos 50 ∷ negℤ (pos 1) ∷ negℤ (pos 1) ∷ [])
+    ∷ gives (phi0Figure (curved (0 ∷ 100_000 ∷ 100_000 ∷ []) 50) ∷ phi0Figure (curved (0 ∷ 100_000 ∷ 100_000 ∷ []) 49) ∷ phi0Figure (curved level 600) ∷ []) (pos 50 ∷ negℤ (pos 1) ∷ negℤ (pos 1) ∷ [])
     -- 'b = 1000 B/d, down. C = 373,000 + 23 b - (43 L/100, up)': B/d of 1/1000 at L 100 and 101.
     ∷ gives (map (λ L. pos (C (afloat L 1 1_000 0 0 [] 0))) (100 ∷ 101 ∷ [])) (pos 372_980 ∷ pos 372_979 ∷ [])
     ∷ gives (pos (b (afloat 0 10_001 10_000 0 0 [] 0)) ∷ []) (pos 1_000 ∷ [])

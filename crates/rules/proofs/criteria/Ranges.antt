@@ -3,14 +3,14 @@ use mathlib.Core.Path.{_≡_, refl}
 use mathlib.Core.Bool.{Bool, true, false, _||_}
 use Prim.Native.Nat.{ℕ, _+_, _*_, _^_, _≤_, _<_}
 use native.Mathlib.Omega.{arith}
-use native.Mathlib.Nat.{mul-le-mul, mul-le-mul-left, div-mul-le-self, div-lt-iff-lt-mul}
+use native.Mathlib.Nat.{mul-le-mul, mul-le-mul-left, div-lt-iff-lt-mul}
 use native.Mathlib.Decide.{decLe}
 use lib.Dec.{leb, ltb, eqb}
 use lib.IntN.{ℤ, pos, negℤ, negsuc, subℕ, natAbs, _+ℤ_, _*ℤ_}
-use borrow.Author.Tests.{leb-false, ltb-false, lt-leb, le-ltb}
+use borrow.Author.Tests.{leb-false, ltb-false}
 use Rattle.rules.specs.Rounding.{ceil, ceilZ, Direction, table}
 use Rattle.rules.specs.Curve.{Loaded}
-use Rattle.rules.specs.Roll.{outsideRange, b, C, q, period, longestPeriod, X1, X2, K, S, keelIndex, k, x1, x2, s, p, r, rOf, phi1, notJudged}
+use Rattle.rules.specs.Roll.{outsideRange, b, C, period, longestPeriod, X1, X2, K, S, keelIndex, k, x1, x2, s, p, r, rOf, phi1, notJudged}
 use Rattle.rules.proofs.rounding.Signed.{Le, add≡, sub≡, up-neg, dn-neg, up-mull, dn-mull}
 use Rattle.rules.proofs.rounding.Rounding.{CeilingZ, ceil-is, ceiling-least, ceilZ-is, ceilingZ-least, ceilingZ-from}
 use Rattle.rules.proofs.rounding.Tables.{table-within, X1-is, X2-is, S-is}
@@ -80,10 +80,6 @@ judged c h =
         let n = neither v w (m .0) in
         (n .0, n .1, m .1, l .1, k .1)
 
-pub judged-where : (c : Loaded) → Judged c → notJudged c ≡ false
-unfolding notJudged outsideRange
-judged-where c j = rw (lt-leb (c .km) (c .kg) (j .gm), lt-leb (35 * c .draught) (10 * c .ship .breadth) (j .beam), le-ltb (10 * c .kg) (7 * c .draught) (j .kgFrom), le-ltb (15 * c .draught) (10 * c .kg) (j .kgTo), lt-leb longestPeriod (period c) (j .swift))
-
 module _ (c : Loaded) (j : Judged c) where
   draught-pos : 0 < c .draught
   draught-pos = omega arith
@@ -137,9 +133,3 @@ module _ (c : Loaded) (j : Judged c) where
 pub C-whole : (c : Loaded) → c .ship .hullLength ≤ 400_000 → C c + ceil (43 * c .ship .hullLength) 100 ≡ 373_000 + 23 * b c
 unfolding C
 C-whole c l = omega (arith, ceiling-least (ceil-is (43 * c .ship .hullLength) 100 (omega arith)) 172_000 (omega arith))
-
-pub q-range : (c : Loaded) → Judged c → c .ship .breadth ≤ 70_000 → q c ≤ 63_490
-unfolding q C
-q-range c j l =
-    let m : C c ≤ 453_500 = omega (arith, b-range c j) in
-    omega (arith, div-mul-le-self (2 * C c * c .ship .breadth) (10 ^ 6), mul-le-mul (mul-le-mul-left 2 m) l)

@@ -5,7 +5,7 @@ use Prim.Native.Nat.{ℕ, zero, suc, _+_, _-_, _*_, _≤_, _<_}
 use native.Mathlib.Omega.{arith}
 use native.Mathlib.Nat.{mul-zero, zero-mul}
 use native.Mathlib.Decide.{decLt}
-use lib.Dec.{T, ltb, leb→le, le→leb, ltb→lt, lt→ltb, nltb→le}
+use lib.Dec.{T, ltb, leb→le, le→leb, ltb→lt, nltb→le}
 use lib.IntN.{ℤ, pos, negsuc, negℤ, subℕ, natAbs, _+ℤ_, _-ℤ_, _*ℤ_}
 use lib.Signed.{leZ, ltZ, ltZ-no, mag}
 
@@ -36,12 +36,6 @@ le! (pos a) (pos b) h = le→leb a b (omega arith)
 le! (pos a) (negsuc b) h = absurd (omega arith)
 le! (negsuc a) (pos b) h = tt
 le! (negsuc a) (negsuc b) h = le→leb b a (omega arith)
-
-pub lt! : (a b : ℤ) → Lt a b → T (ltZ a b)
-lt! (pos a) (pos b) h = lt→ltb a b (omega arith)
-lt! (pos a) (negsuc b) h = absurd (omega arith)
-lt! (negsuc a) (pos b) h = tt
-lt! (negsuc a) (negsuc b) h = lt→ltb b a (omega arith)
 
 pub le? : (a b : ℤ) → T (leZ a b) → Le a b
 le? (pos a) (pos b) h = omega (arith, leb→le a b h)

@@ -5,12 +5,11 @@ use mathlib.Core.List.{List, [], _∷_}
 use Prim.Native.Nat.{ℕ, _+_, _-_, _≤_, _<_}
 use native.Mathlib.Omega.{arith}
 use lib.ListN.{length}
-use lib.Dec.{ltb}
 use borrow.Author.Tests.{lt-ltb, le-ltb, eq-eqb, ne-eqb}
-use Rattle.rules.specs.Blocks.{Layout, size, ok, values, Load, Values, entry}
+use Rattle.rules.specs.Blocks.{Layout, size, ok, values, Load, Values}
 use Rattle.rules.specs.Layout.{Entries, end, leaf, group, leaves}
 use Rattle.rules.specs.Outcome.{refused, got, _>>=_}
-use Rattle.rules.specs.Walk.{header, fixed, load, nested, begun, one, nest, blockAt, step, entries}
+use Rattle.rules.specs.Walk.{header, fixed, nested, begun, one, nest, blockAt, step, entries}
 use Rattle.rules.specs.Parts.{part, headAt}
 use Rattle.rules.proofs.walk.Outcome.{bind-got, bind-refused, test-got, test-refused}
 use Rattle.rules.proofs.layout.Parts.{full-some, full-none, length-part}
@@ -37,24 +36,6 @@ module _ {A : Type 0} (ln at : ℕ) (L : Layout A) (body : List ℕ) (room : Boo
 
 -- ---- an entry or a group as it begins
 module _ (ln d n at : ℕ) (body : List ℕ) where
-  module _ (k : Load) where
-    pub begun-length : (length body ≡ size (entry k .fields) → ⊥) → begun ln d n at body (load k) ≡ refused 3 ln at
-    unfolding begun
-    begun-length h = bind-refused _ (fixed-length ln at (entry k) body (ltb 0 n) h)
-
-    module _ (h : length body ≡ size (entry k .fields)) where
-      pub begun-full : n ≡ 0 → begun ln d n at body (load k) ≡ refused 5 ln at
-      unfolding begun
-      begun-full z = bind-refused _ (fixed-full ln at (entry k) body (ltb 0 n) h (le-ltb 0 n (omega arith)))
-
-      pub begun-outside : 0 < n → ok (entry k) (entry k .named (values (entry k .fields) body)) ≡ false → begun ln d n at body (load k) ≡ refused 6 ln at
-      unfolding begun
-      begun-outside z o = bind-refused _ (fixed-outside ln at (entry k) body (ltb 0 n) h (lt-ltb 0 n z) o)
-
-      pub begun-entry : 0 < n → ok (entry k) (entry k .named (values (entry k .fields) body)) ≡ true → begun ln d n at body (load k) ≡ got (one k (entry k .named (values (entry k .fields) body)))
-      unfolding begun
-      begun-entry z o = bind-got _ (fixed-within ln at (entry k) body (ltb 0 n) h (lt-ltb 0 n z) o)
-
   pub begun-deep : d ≡ 0 → begun ln d n at body nested ≡ refused 5 ln at
   unfolding begun
   begun-deep z = test-refused _ _ _ _ (le-ltb 0 d (omega arith))

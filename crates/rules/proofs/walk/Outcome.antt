@@ -60,8 +60,3 @@ pub bind-cong : {A B : Type 0} (m : Ans A) (k k′ : A → Ans B) → ((a : A) �
 unfolding _>>=_
 bind-cong (refused n l o) k k′ h = refl
 bind-cong (got a) k k′ h = h a refl
-
-pub test-cong : {B : Type 0} (c : Bool) (n l o : ℕ) (k k′ : Ans B) → (c ≡ true → k ≡ k′) → (test c n l o >> k) ≡ (test c n l o >> k′)
-unfolding _>>_ test
-test-cong true n l o k k′ h = h refl
-test-cong false n l o k k′ h = refl

@@ -271,8 +271,5 @@ refused-or-allowed {X} t f g = go (read t) refl
 pub not-both : (t : List ℕ) (n l o : ℕ) → read t ≡ refused n l o → ¬ Allowed t
 not-both t n l o e a = refused-got (sym e ∙ read-allowed t .1 a .1)
 
-pub refused-iff-not-allowed : (t : List ℕ) → Refused t ↔ (¬ Allowed t)
-refused-iff-not-allowed t = (λ x. not-both t (x .0) (x .1) (x .2) (x .3), λ h. refused-or-allowed t (λ x. x) (λ a. absurd (h a)))
-
 pub unrefused-iff-allowed : (t : List ℕ) → ((n l o : ℕ) → (1 ≤ n) × (n ≤ 6) → read t ≢ refused n l o) ↔ Allowed t
 unrefused-iff-allowed t = (λ h. refused-or-allowed t (λ x. absurd (h (x .0) (x .1) (x .2) (x .4, x .5) (x .3))) (λ a. a), λ a n l o h e. not-both t n l o e a)
