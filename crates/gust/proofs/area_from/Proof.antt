@@ -31,17 +31,17 @@ side-is c = c .tilt .ensures ∙ ap natAbs (start-is (c .before))
 side-to : (c : tie.After-tilt) → c .tilt .result < 601
 side-to c = omega (arith, side-is c, start-tilt _ (c .before .pre .0))
 
--- ---- the two areas, and their difference
-end-is : (c : tie.After-result) → toZ w64 (ofZ w64 (getD (c .before .before .args .area .now) (c .before .before .args .e) (pos 0))) ≡ upTo (y (ship (c .before .before))) (e (ship (c .before .before)))
-end-is c =
-    let s = c .before .before in
-    toZ-ofZ (record { sfits = c .result .given }) ∙ s .pre .1 .at (s .args .e) (omega (arith, e-to s)) ∙ ap (upTo (y (ship s))) (s .pre .3)
-
+-- ---- the two areas, the one to windward first, and their difference
 aside-is : (c : tie.After-result2) → toZ w64 (ofZ w64 (getD (c .before .before .before .args .area .now) (c .before .before .tilt .result) (pos 0))) ≡ upTo (y (ship (c .before .before .before))) (natAbs (start (ship (c .before .before .before))))
 aside-is c =
     let s = c .before .before .before in
     let t = c .before .before in
     toZ-ofZ (record { sfits = c .result2 .given }) ∙ s .pre .1 .at (t .tilt .result) (omega (arith, side-to t)) ∙ ap (upTo (y (ship s))) (side-is t)
+
+end-is : (c : tie.After-result) → toZ w64 (ofZ w64 (getD (c .before .before .args .area .now) (c .before .before .args .e) (pos 0))) ≡ upTo (y (ship (c .before .before))) (e (ship (c .before .before)))
+end-is c =
+    let s = c .before .before in
+    toZ-ofZ (record { sfits = c .result .given }) ∙ s .pre .1 .at (s .args .e) (omega (arith, e-to s)) ∙ ap (upTo (y (ship s))) (s .pre .3)
 
 near : (s : tie.Start) → SFits w64 (upTo (y (ship s)) (e (ship s)) -ℤ upTo (y (ship s)) (natAbs (start (ship s))))
 near s = rw (← area-from _ (s .pre .0)) (fits _ (omega (arith, area-within _ (s .pre .0))))

@@ -1,4 +1,5 @@
 -- `roll::outside` meets its contract: each way out is a test of the rules. Assumes nothing.
+use Prim.Native.Nat.{_*_}
 use native.Mathlib.Omega.{arith}
 use borrow.Author.Tests.{le-leb, lt-leb, lt-ltb}
 use Rattle.rules.specs.Roll.{outsideRange}
@@ -20,7 +21,9 @@ mul-if2-2 c = omega (arith, sized _ (c .before .before .before .before .pre))
 
 returns-2 : tie.Need-returns-2
 unfolding outsideRange
-returns-2 c = simp (lt-leb _ _ (c .before .before .before .if1 .left), le-leb _ _ (c .if2 .taken))
+returns-2 c =
+    let a = c .before .before .before .before .before .args .c in
+    simp (lt-leb _ _ (c .before .before .before .if1 .left), le-leb (35 * a .draught) (10 * a .ship .breadth) (omega (arith, c .if2 .taken)))
 
 mul-if3 : tie.Need-mul-if3
 mul-if3 c = search needs

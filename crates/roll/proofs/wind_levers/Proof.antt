@@ -19,11 +19,11 @@ ceil-requires c κs = let s = c .before .before .before in omega (arith, sized _
 
 mul-ceil : tie.Need-mul-ceil
 unfolding lw1
-mul-ceil c = omega (arith, lw1-to _ (c .before .before .before .before .pre))
+mul-ceil c = let s = c .before .before .before .before in omega (arith, lw1-to _ (s .pre), moment-to _ (s .pre))
 
 ceil-requires-2 : tie.Need-ceil-requires-2
 unfolding lw1
-ceil-requires-2 c κs = omega (arith, lw1-to _ (c .before .before .before .before .pre))
+ceil-requires-2 c κs = let s = c .before .before .before .before in omega (arith, sized _ (s .pre), lw1-to _ (s .pre), moment-to _ (s .pre))
 
 returns : tie.Need-returns
 unfolding lw1 lw2

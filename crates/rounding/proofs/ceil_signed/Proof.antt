@@ -11,14 +11,6 @@ div-q c = simp (toZ-ofZ w64 _ (c .fits .a), toZ-ofZ w64 _ (c .fits .d)) (bits-po
 rem-if1 : tie.Need-rem-if1
 rem-if1 c = div-q c
 
-add-result : tie.Need-add-result
-add-result c =
-    let s = c .before in
-    let q = quot-fits (s .args .a) (s .args .d) (s .fits .a) (s .pre) in
-    let r = rem-fits (s .args .a) (s .args .d) (s .fits .a) in
-    let t = simp (toZ-ofZ w64 _ (s .fits .a), toZ-ofZ w64 _ (s .fits .d), toZ-ofZ w64 _ r) at (c .if1 .taken) in
-    simp (toZ-ofZ w64 _ (s .fits .a), toZ-ofZ w64 _ (s .fits .d), toZ-ofZ w64 _ q) (one-more-fits (s .args .a) (s .args .d) (s .fits .a) (s .pre) t)
-
 returns : tie.Need-returns
 returns c =
     let s = c .before in
@@ -35,6 +27,14 @@ returns-2 c =
     let r = rem-fits (s .args .a) (s .args .d) (s .fits .a) in
     let t = simp (toZ-ofZ w64 _ (s .fits .a), toZ-ofZ w64 _ (s .fits .d), toZ-ofZ w64 _ r) at (c .if1 .left) in
     simp (toZ-ofZ w64 _ (s .fits .a), toZ-ofZ w64 _ (s .fits .d), toZ-ofZ w64 _ q) (no-more (s .args .a) (s .args .d) (s .pre) t)
+
+add-result : tie.Need-add-result
+add-result c =
+    let s = c .before in
+    let q = quot-fits (s .args .a) (s .args .d) (s .fits .a) (s .pre) in
+    let r = rem-fits (s .args .a) (s .args .d) (s .fits .a) in
+    let t = simp (toZ-ofZ w64 _ (s .fits .a), toZ-ofZ w64 _ (s .fits .d), toZ-ofZ w64 _ r) at (c .if1 .taken) in
+    simp (toZ-ofZ w64 _ (s .fits .a), toZ-ofZ w64 _ (s .fits .d), toZ-ofZ w64 _ q) (one-more-fits (s .args .a) (s .args .d) (s .fits .a) (s .pre) t)
 
 pub ceil-signed-spec : {M : Type 1} → statement M
 ceil-signed-spec = tie.close (tie.spec div-q rem-if1 add-result returns returns-2)

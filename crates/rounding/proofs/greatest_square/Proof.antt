@@ -31,17 +31,17 @@ mul-if1 c = let t = c .before .before in omega (arith, square-le 1 ((c .before .
 mul-if1-2 : tie.Need-mul-if1-2 Inv-loop μ-loop
 mul-if1-2 c = let t = c .before .before in omega (arith, square-le (t .args .a) ((c .before .loop .low + c .before .loop .high) / 2) (t .args .top) (omega arith))
 
-loop-less : tie.Need-loop-less Inv-loop μ-loop
-loop-less c = omega arith
-
-loop-again : tie.Need-loop-again Inv-loop μ-loop
-loop-again c = let l = c .before .before in raise _ _ (l .loop .low) (l .loop .high) _ (l .loop .inv) (omega arith) (le-leb _ _ (c .if1 .taken))
-
 loop-less-2 : tie.Need-loop-less-2 Inv-loop μ-loop
 loop-less-2 c = omega arith
 
 loop-again-2 : tie.Need-loop-again-2 Inv-loop μ-loop
 loop-again-2 c = let l = c .before .before in lower _ _ (l .loop .low) (l .loop .high) _ (l .loop .inv) (omega arith) (omega arith) (square-past _ _ _ (c .if1 .left))
+
+loop-less : tie.Need-loop-less Inv-loop μ-loop
+loop-less c = omega arith
+
+loop-again : tie.Need-loop-again Inv-loop μ-loop
+loop-again c = let l = c .before .before in raise _ _ (l .loop .low) (l .loop .high) _ (l .loop .inv) (omega arith) (le-leb _ _ (c .if1 .taken))
 
 returns : tie.Need-returns Inv-loop μ-loop
 returns c = let l = c .before in found _ _ (l .loop .low) (l .loop .high) (l .loop .inv) (omega arith)

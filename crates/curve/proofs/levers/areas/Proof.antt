@@ -54,6 +54,15 @@ all c =
 loop-holds : tie.Need-loop-holds Inv-loop μ-loop
 loop-holds c = (omega arith, refl, record { at = λ k h. let e : k ≡ 0 = omega arith in rw e (sym (upTo-none (held (c .args .y .now)))) })
 
+loop-again : tie.Need-loop-again Inv-loop μ-loop
+loop-again c =
+    let l = turn c in (
+      omega arith,
+      simp length-set (l .loop .inv .1),
+      filled-more _ _ _ _ _ (omega arith) (l .loop .inv .2)
+          (running-sum (s c) (a c) (b c) (c .before .before .area .given) (c .before .area2 .given) (c .area3 .given) (pair c) (all c) ∙ grown c),
+    )
+
 mul-area : tie.Need-mul-area Inv-loop μ-loop
 mul-area c = search needs
 
@@ -95,15 +104,6 @@ add-t c = search needs
 
 loop-less : tie.Need-loop-less Inv-loop μ-loop
 loop-less c = search needs
-
-loop-again : tie.Need-loop-again Inv-loop μ-loop
-loop-again c =
-    let l = turn c in (
-      omega arith,
-      simp length-set (l .loop .inv .1),
-      filled-more _ _ _ _ _ (omega arith) (l .loop .inv .2)
-          (running-sum (s c) (a c) (b c) (c .before .before .area .given) (c .before .area2 .given) (c .area3 .given) (pair c) (all c) ∙ grown c),
-    )
 
 returns : tie.Need-returns Inv-loop μ-loop
 returns c = let l = c .before .loop in record { long = l .inv .1; at = λ t h. l .inv .2 .at t (omega arith) }

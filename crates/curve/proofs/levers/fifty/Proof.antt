@@ -32,6 +32,11 @@ facts c =
       z = record { sfits = omega (arith, mag-abs (pos (50 - m) *ℤ a +ℤ pos m *ℤ b), straight-within a b m n (c .pre .2) (c .pre .0) (c .pre .1)) };
     }
 
+returns : tie.Need-returns
+returns c =
+    let f = facts c in
+    simp (toZ-ofZ w64 _ (c .fits .a), toZ-pos w64 _ (f .l), toZ-ofZ w64 _ (c .fits .b), toZ-pos w64 _ (f .p), toZ-ofZ w64 _ (f .x), toZ-ofZ w64 _ (f .y), toZ-ofZ w64 _ (f .z))
+
 sub-left : tie.Need-sub-left
 sub-left c = search needs
 
@@ -51,11 +56,6 @@ add-result : tie.Need-add-result
 add-result c =
     let f = facts c in
     simp (toZ-ofZ w64 _ (c .fits .a), toZ-pos w64 _ (f .l), toZ-ofZ w64 _ (c .fits .b), toZ-pos w64 _ (f .p), toZ-ofZ w64 _ (f .x), toZ-ofZ w64 _ (f .y)) (f .z)
-
-returns : tie.Need-returns
-returns c =
-    let f = facts c in
-    simp (toZ-ofZ w64 _ (c .fits .a), toZ-pos w64 _ (f .l), toZ-ofZ w64 _ (c .fits .b), toZ-pos w64 _ (f .p), toZ-ofZ w64 _ (f .x), toZ-ofZ w64 _ (f .y), toZ-ofZ w64 _ (f .z))
 
 pub fifty-spec : {M : Type 1} → statement M
 fifty-spec =

@@ -9,6 +9,9 @@ use Rattle.curve.proofs.Machine.{difference-fits, difference}
 use Rattle.curve.proofs.levers.lever.Statement.{statement}
 use Rattle.curve.proofs.levers.lever.Tie as tie
 
+returns : tie.Need-returns
+returns c = difference (100000 * c .args .kn) (c .args .kg * getD sines (c .args .i) 0) (over-small (c .pre .0)) (under-small (c .args .i) (c .pre .1))
+
 mul-over : tie.Need-mul-over
 mul-over c = search needs
 
@@ -29,9 +32,6 @@ cast-result-2 c = omega (arith, under-small (c .args .i) (c .pre .1))
 
 sub-result : tie.Need-sub-result
 sub-result c = difference-fits (100000 * c .args .kn) (c .args .kg * getD sines (c .args .i) 0) (over-small (c .pre .0)) (under-small (c .args .i) (c .pre .1))
-
-returns : tie.Need-returns
-returns c = difference (100000 * c .args .kn) (c .args .kg * getD sines (c .args .i) 0) (over-small (c .pre .0)) (under-small (c .args .i) (c .pre .1))
 
 pub lever-spec : {M : Type 1} → statement M
 lever-spec =

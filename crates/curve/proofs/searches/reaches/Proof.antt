@@ -29,6 +29,14 @@ mul-if1 c = omega arith
 element-copy-out-if1 : tie.Need-element-copy-out-if1 Inv-loop μ-loop
 element-copy-out-if1 c = omega arith
 
+loop-again : tie.Need-loop-again Inv-loop μ-loop
+unfolding held
+loop-again c =
+    let l = c .before .before .before in
+    let s = l .before in
+    let e = tested-within (s .args .level) (getD (s .args .y .now) (l .loop .t) (pos 0)) false (s .fits .level .sfits) (c .before .if12 .given) (c .if1 .left) in
+    l .loop .inv ∙ rw (back (s .args .level) (s .fits .level .sfits)) (reaches-later _ _ _ _ (omega arith) e)
+
 returns : tie.Need-returns Inv-loop μ-loop
 unfolding held
 returns c =
@@ -42,14 +50,6 @@ add-t c = omega arith
 
 loop-less : tie.Need-loop-less Inv-loop μ-loop
 loop-less c = omega arith
-
-loop-again : tie.Need-loop-again Inv-loop μ-loop
-unfolding held
-loop-again c =
-    let l = c .before .before .before in
-    let s = l .before in
-    let e = tested-within (s .args .level) (getD (s .args .y .now) (l .loop .t) (pos 0)) false (s .fits .level .sfits) (c .before .if12 .given) (c .if1 .left) in
-    l .loop .inv ∙ rw (back (s .args .level) (s .fits .level .sfits)) (reaches-later _ _ _ _ (omega arith) e)
 
 returns-2 : tie.Need-returns-2 Inv-loop μ-loop
 returns-2 c =

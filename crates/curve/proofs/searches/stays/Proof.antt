@@ -40,6 +40,29 @@ out-holds c =
 loop-holds : tie.Need-loop-holds Inv-loop μ-loop Inv-out μ-out
 loop-holds c = c .before .out .inv
 
+returns-3 : tie.Need-returns-3 Inv-loop μ-loop Inv-out μ-out
+unfolding held
+returns-3 c =
+    let l = c .before .before .before .before in
+    let s = l .before .before .before in
+    let t = l .before .before .out .station * 50 + l .loop .tenth in
+    let e = tested-below (getD (s .args .y .now) t (pos 0)) (s .args .level) true (c .before .if22 .given) (s .fits .level .sfits) (c .if2 .taken) in
+    stays-to _ _ _ _ (omega arith) (ap (λ (k : ℕ). ltZ (held (s .args .y .now) (pos k)) (s .args .level)) (l .loop .inv .0) ∙ e)
+    ∙ sym (rw (back (s .args .level) (s .fits .level .sfits)) at (l .loop .inv .3))
+
+loop-again : tie.Need-loop-again Inv-loop μ-loop Inv-out μ-out
+unfolding held
+loop-again c =
+    let l = c .before .before .before .before in
+    let s = l .before .before .before in
+    let t = l .before .before .out .station * 50 + l .loop .tenth in
+    let e = tested-below (getD (s .args .y .now) t (pos 0)) (s .args .level) false (c .before .if22 .given) (s .fits .level .sfits) (c .if2 .left) in (
+      omega arith,
+      omega arith,
+      omega arith,
+      l .loop .inv .3 ∙ rw (back (s .args .level) (s .fits .level .sfits)) (stays-on _ _ _ _ (omega arith) (ap (λ (k : ℕ). ltZ (held (s .args .y .now) (pos k)) (s .args .level)) (l .loop .inv .0) ∙ e)),
+    )
+
 mul-if2 : tie.Need-mul-if2 Inv-loop μ-loop Inv-out μ-out
 mul-if2 c = omega arith
 
@@ -61,19 +84,6 @@ add-tenth-2 c = omega arith
 loop-less : tie.Need-loop-less Inv-loop μ-loop Inv-out μ-out
 loop-less c = omega arith
 
-loop-again : tie.Need-loop-again Inv-loop μ-loop Inv-out μ-out
-unfolding held
-loop-again c =
-    let l = c .before .before .before .before in
-    let s = l .before .before .before in
-    let t = l .before .before .out .station * 50 + l .loop .tenth in
-    let e = tested-below (getD (s .args .y .now) t (pos 0)) (s .args .level) false (c .before .if22 .given) (s .fits .level .sfits) (c .if2 .left) in (
-      omega arith,
-      omega arith,
-      omega arith,
-      l .loop .inv .3 ∙ rw (back (s .args .level) (s .fits .level .sfits)) (stays-on _ _ _ _ (omega arith) (ap (λ (k : ℕ). ltZ (held (s .args .y .now) (pos k)) (s .args .level)) (l .loop .inv .0) ∙ e)),
-    )
-
 add-station-2 : tie.Need-add-station-2 Inv-loop μ-loop Inv-out μ-out
 add-station-2 c = omega arith
 
@@ -91,16 +101,6 @@ returns-2 c =
     let l = c .before .before in
     let s = l .before .before .before in
     stays-all _ _ _ _ (omega arith) ∙ sym (rw (back (s .args .level) (s .fits .level .sfits)) at (l .loop .inv .3))
-
-returns-3 : tie.Need-returns-3 Inv-loop μ-loop Inv-out μ-out
-unfolding held
-returns-3 c =
-    let l = c .before .before .before .before in
-    let s = l .before .before .before in
-    let t = l .before .before .out .station * 50 + l .loop .tenth in
-    let e = tested-below (getD (s .args .y .now) t (pos 0)) (s .args .level) true (c .before .if22 .given) (s .fits .level .sfits) (c .if2 .taken) in
-    stays-to _ _ _ _ (omega arith) (ap (λ (k : ℕ). ltZ (held (s .args .y .now) (pos k)) (s .args .level)) (l .loop .inv .0) ∙ e)
-    ∙ sym (rw (back (s .args .level) (s .fits .level .sfits)) at (l .loop .inv .3))
 
 pub stays-spec : {M : Type 1} → statement M
 stays-spec =
