@@ -54,10 +54,18 @@ module _ (r : Reading) where
   weighed-cases {X} f g h = go (leb (firstMass (r .rows)) (displacement (entriesOf r))) (leb (displacement (entriesOf r)) (lastMass (r .rows))) (leb (correctedKG (entriesOf r)) greatestKG) refl refl refl
     where
       go : (a b c : Bool) → leb (firstMass (r .rows)) (displacement (entriesOf r)) ≡ a → leb (displacement (entriesOf r)) (lastMass (r .rows)) ≡ b → leb (correctedKG (entriesOf r)) greatestKG ≡ c → X
-      go false b c p q s = f (inl (leb-false _ _ p)) (off (table-steps ∙ rw p))
-      go true false c p q s = f (inr (leb-false _ _ q)) (off (table-steps ∙ rw (p, q)))
-      go true true false p q s = g ((leb-true _ _ p, leb-true _ _ q), leb-false _ _ s) (on (table-steps ∙ rw (p, q)) false s)
-      go true true true p q s = h ((leb-true _ _ p, leb-true _ _ q), leb-true _ _ s) (on (table-steps ∙ rw (p, q)) true s)
+      go false b c p q s = let u : displacement (entriesOf r) < firstMass (r .rows) = leb-false _ _ p in f (inl (omega arith)) (off (table-steps ∙ rw p))
+      go true false c p q s = let v : lastMass (r .rows) < displacement (entriesOf r) = leb-false _ _ q in f (inr (omega arith)) (off (table-steps ∙ rw (p, q)))
+      go true true false p q s =
+          let u : firstMass (r .rows) ≤ displacement (entriesOf r) = leb-true _ _ p in
+          let v : displacement (entriesOf r) ≤ lastMass (r .rows) = leb-true _ _ q in
+          let w : greatestKG < correctedKG (entriesOf r) = leb-false _ _ s in
+          g ((omega arith, omega arith), omega arith) (on (table-steps ∙ rw (p, q)) false s)
+      go true true true p q s =
+          let u : firstMass (r .rows) ≤ displacement (entriesOf r) = leb-true _ _ p in
+          let v : displacement (entriesOf r) ≤ lastMass (r .rows) = leb-true _ _ q in
+          let w : correctedKG (entriesOf r) ≤ greatestKG = leb-true _ _ s in
+          h ((omega arith, omega arith), omega arith) (on (table-steps ∙ rw (p, q)) true s)
 
   apart : Outside r → Inside r → ⊥
   apart O I = ⊎-elim (λ l. omega arith) (λ l. omega arith) O

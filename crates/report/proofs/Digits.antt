@@ -27,10 +27,10 @@ drop-set l i a h =
     let k : i < length (set l i a) = rw length-set h in
     rw (drop-cons (set l i a) i 0 k, getD-set-same l i a 0 h, drop-set-lt (suc i) l i a (omega arith))
 
--- The lowest k bytes of a number stand at the end of a part of n bytes, and one more is stored before them.
-pub stored-more : (part : List ℕ) (n k v : ℕ) → length part ≡ n → k < n → drop (n - k) part ≡ digits k (v % 256 ^ k)
-    → drop (n - (k + 1)) (set part (n - 1 - k) (v / 256 ^ k % 256)) ≡ digits (k + 1) (v % 256 ^ (k + 1))
-stored-more part n k v e h d =
-    let i : n - (k + 1) ≡ n - 1 - k = omega arith in
+-- The lowest k bytes of a number stand at the end of a part of n bytes, and one more is stored before them, at i.
+pub stored-more : (part : List ℕ) (n k v i : ℕ) → i ≡ n - 1 - k → length part ≡ n → k < n → drop (n - k) part ≡ digits k (v % 256 ^ k)
+    → drop (n - (k + 1)) (set part i (v / 256 ^ k % 256)) ≡ digits (k + 1) (v % 256 ^ (k + 1))
+stored-more part n k v i at e h d =
+    let f : n - (k + 1) ≡ n - 1 - k = omega arith in
     let j : suc (n - 1 - k) ≡ n - k = omega arith in
-    rw (i, drop-set part (n - 1 - k) (v / 256 ^ k % 256) (omega arith), j, add-one k, digits-more k v, d)
+    rw (at, f, drop-set part (n - 1 - k) (v / 256 ^ k % 256) (omega arith), j, add-one k, digits-more k v, d)

@@ -2,6 +2,7 @@
 use mathlib.Core.Path.{refl, ap, sym, _∙_}
 use mathlib.Core.List.{_++_}
 use borrow.Author.Needs.{needs}
+use native.Mathlib.Omega.{arith}
 use lib.ListN.{drop}
 use denote.Ref.{now}
 use Rattle.rules.specs.Report.{reportLength, reportLine}
@@ -24,7 +25,7 @@ returns c =
     let w = c .before .before in
     let a = w .before .before .before .before .args in
     record {
-      numbered = refl;
+      numbered = omega arith;
       reported = w .write .ensures
           ∙ ap (λ (j : Judgement). reportLine (a .refusal .number) (a .refusal .line) (a .refusal .offset) (j .verdicts) (j .figures) ++ drop reportLength (now (a .report))) (w .before .no-judgement .ensures)
           ∙ ap (_++ drop reportLength (now (a .report))) (sym (report-refused (a .refusal .number) (a .refusal .line) (a .refusal .offset)));

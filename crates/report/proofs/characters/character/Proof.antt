@@ -1,4 +1,5 @@
 -- The two cases of a digit's character.
+use native.Mathlib.Omega.{arith}
 use borrow.Author.Tests.{lt-ltb, le-ltb}
 use borrow.Author.Needs.{needs}
 use Rattle.rules.specs.Text.{digit}
@@ -17,7 +18,7 @@ returns c = simp (lt-ltb _ _ (c .if1 .taken))
 
 returns-2 : tie.Need-returns-2
 unfolding digit
-returns-2 c = simp (le-ltb _ _ (c .if1 .left))
+returns-2 c = simp (le-ltb _ _ (c .if1 .left)) (omega arith)
 
 pub character-spec : {M : Type 1} → statement M
 character-spec = tie.close (tie.spec add-result add-result-2 returns returns-2)

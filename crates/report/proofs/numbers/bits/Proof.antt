@@ -46,7 +46,8 @@ returns c =
     let f = c .before .before .fits .v in
     let p : SFits w64 (pos (mag (c .before .before .args .v))) = record { sfits = f .sfits } in
     let t = simp (toZ-ofZ w64 _ f) at (c .before .if1 .taken) in
-    wraps (c .before .before .args .v) (c .wrapping-sub-u64 .result) f t (c .wrapping-sub-u64 .ok) (simp (toZ-ofZ w64 _ f, less-one (c .before .before .args .v) t, toZ-ofZ w64 _ p) at (c .wrapping-sub-u64 .ensures))
+    let e = simp (toZ-ofZ w64 _ f, less-one (c .before .before .args .v) t, toZ-ofZ w64 _ p) at (c .wrapping-sub-u64 .ensures) in
+    wraps (c .before .before .args .v) (c .wrapping-sub-u64 .result) f t (c .wrapping-sub-u64 .ok) (omega arith)
 
 returns-2 : tie.Need-returns-2
 returns-2 c =

@@ -43,7 +43,7 @@ loop-again c =
     let l = c .before .loop in
     let n = length (c .before .before .args .part .now) in
     let v = c .before .before .args .v in
-    (omega arith, simp length-set (omega arith), rw (l .inv .2, add-one) (rest-more (l .k) v), rw (l .inv .2) (stored-more (l .part) n (l .k) v (omega arith) (omega arith) (l .inv .3)))
+    (omega arith, simp length-set (omega arith), rw (l .inv .2, add-one) (rest-more (l .k) v), rw (l .inv .2) (stored-more (l .part) n (l .k) v _ (omega arith) (omega arith) (omega arith) (l .inv .3)))
 
 same-length : tie.Need-same-length Inv-loop μ-loop
 same-length c = omega arith
