@@ -5,10 +5,10 @@ use mathlib.Core.List.{List}
 use Prim.Native.Nat.{ℕ, zero, suc, _+_, _-_, _*_, _≤_, _<_}
 use native.Mathlib.Omega.{arith}
 use lib.ListN.{getD}
-use lib.IntN.{ℤ, pos, negℤ, subℕ, _-ℤ_}
+use lib.IntN.{ℤ, pos, negℤ, subℕ}
 use lib.Signed.{leZ, ltZ}
 use Rattle.rules.specs.Rounding.{first, firstIn, peak}
-use Rattle.rules.specs.Curve.{Loaded, lever, leverZ, area, E}
+use Rattle.rules.specs.Curve.{Loaded, lever, leverZ, E}
 use Rattle.rules.specs.Criteria.{reaches}
 use Rattle.rules.specs.Roll.{stays}
 use Rattle.rules.specs.Ranges.{Fair, rowAt}
@@ -18,7 +18,7 @@ use Rattle.rules.proofs.rounding.Signed.{eq!, sub≡}
 use Rattle.rules.proofs.rounding.Searches.{peak-is}
 use Rattle.curve.specs.Levers.{Sized, Holds, held, upTo}
 use Rattle.curve.proofs.Limits.{kn-small}
-use Rattle.curve.proofs.Areas.{Odd, upTo-same, leeward, windward}
+use Rattle.curve.proofs.Areas.{Odd, upTo-same}
 
 -- ---- searches see a curve only where they look
 peak-same : (f h : ℕ → ℤ) (t n : ℕ) → ((k : ℕ) → k ≤ t + n → f k ≡ h k) → peak f t n ≡ peak h t n
@@ -75,18 +75,6 @@ module _ (kn : List ℕ) (kg : ℕ) where
 
     pub areas-held : {zs : List ℤ} → Holds (upTo (held ys)) zs → Holds (upTo (leverZ kn kg)) zs
     areas-held h = record { long = h .long; at = λ n l. h .at n l ∙ upTo-same (held ys) (leverZ kn kg) n (λ t m. held-is t (omega arith)) }
-
-  -- ---- areas by two entries of an array that holds those from 0
-  module _ (zs : List ℤ) (is : Holds (upTo (leverZ kn kg)) zs) where
-    entries : (a e : ℕ) → a ≤ 600 → e ≤ 600 → upTo (leverZ kn kg) e -ℤ upTo (leverZ kn kg) a ≡ getD zs e (pos 0) -ℤ getD zs a (pos 0)
-    entries a e h k = rw (is .at a h, is .at e k)
-
-    pub area-leeward : (a e : ℕ) → a ≤ e → e ≤ 600 → area (leverZ kn kg) (pos a) (pos e) ≡ getD zs e (pos 0) -ℤ getD zs a (pos 0)
-    area-leeward a e h k = leeward (leverZ kn kg) a e h ∙ entries a e (omega arith) k
-
-    -- 'KN .. first one 0', so y(0) is 0 and the curve is its own mirror.
-    pub area-windward : getD kn 0 0 ≡ 0 → (a e : ℕ) → a ≤ 600 → e ≤ 600 → area (leverZ kn kg) (negℤ (pos a)) (pos e) ≡ getD zs e (pos 0) -ℤ getD zs a (pos 0)
-    area-windward upright a e h k = windward (leverZ kn kg) (lever-odd kn kg upright) a e ∙ entries a e h k
 
 -- ---- what a fair ship's curve rests on
 module _ (c : Loaded) (fair : Fair c) where

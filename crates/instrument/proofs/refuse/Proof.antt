@@ -1,5 +1,5 @@
 -- `instrument::refuse` meets its contract: what is written for no judgement is the report of a refusal.
-use mathlib.Core.Path.{refl, ap, sym, _∙_}
+use mathlib.Core.Path.{ap, sym, _∙_}
 use mathlib.Core.List.{_++_}
 use borrow.Author.Needs.{needs}
 use native.Mathlib.Omega.{arith}

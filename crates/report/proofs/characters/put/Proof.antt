@@ -1,3 +1,4 @@
+-- `characters::put` meets its contract: each byte becomes its two digits, in their places.
 use Prim.Native.Nat.{ℕ, _-_, _≤_}
 use mathlib.Core.Path.{_≡_, refl, _∙_, ap}
 use mathlib.Core.List.{[], _∷_}

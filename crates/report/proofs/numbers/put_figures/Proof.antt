@@ -1,3 +1,4 @@
+-- `numbers::put_figures` meets its contract: each figure stands in its own eight bytes, in order.
 use Prim.Native.Nat.{_-_, _*_, _≤_}
 use mathlib.Core.Path.{_≡_, _∙_, ap}
 use mathlib.Core.List.{append-nil}
