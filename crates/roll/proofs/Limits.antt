@@ -3,11 +3,11 @@ use Prim.Native.Nat.{_*_, _/_, _^_, _≤_, _<_}
 use native.Mathlib.Omega.{arith}
 use native.Mathlib.Nat.{mul-le-mul, mul-le-mul-left, div-mul-le-self, div-lt-iff-lt-mul}
 use Rattle.rules.specs.Rounding.{ceil}
-use Rattle.rules.specs.Blocks.{ok, ship, weather}
+use Rattle.rules.specs.Blocks.{ok, ship, row, weather}
 use Rattle.rules.specs.Curve.{Loaded}
 use Rattle.rules.specs.Criteria.{lw1, lw2}
 use Rattle.rules.specs.Roll.{b, C, q}
-use Rattle.rules.specs.Ranges.{Fair}
+use Rattle.rules.specs.Ranges.{Fair, rowAt}
 use Rattle.rules.proofs.rounding.Rounding.{ceil-is, ceiling-least}
 use Rattle.rules.proofs.layout.Fields.{both-true, Limited, limited}
 
@@ -17,8 +17,14 @@ pub record Sized (c : Loaded) : Type 0 where
   pub lengthTo : c .ship .hullLength ≤ 400_000
   pub breadthFrom : 3_000 ≤ c .ship .breadth
   pub breadthTo : c .ship .breadth ≤ 70_000
+  pub keelTo : c .ship .keelArea ≤ 20_000
   pub windTo : c .weather .windArea ≤ 300_000
   pub zTo : c .weather .z ≤ 60_000
+  pub massFrom : 100_000 ≤ c .w
+  pub massTo : c .w ≤ 600_000_000
+  pub draughtFrom : 500 ≤ c .draught
+  pub draughtTo : c .draught ≤ 30_000
+  pub kmTo : c .km ≤ 60_000
   pub kgTo : c .kg ≤ 60_000
 
 pub sized : (c : Loaded) → Fair c → Sized c
@@ -26,13 +32,20 @@ unfolding ok Limited
 sized c f =
     let hull = limited (ship .fields) (ship .listed (c .ship)) (both-true _ _ (f .hull) .0) in
     let sky = limited (weather .fields) (weather .listed (c .weather)) (both-true _ _ (f .sky) .0) in
+    let form = limited (row .fields) (row .listed (rowAt c)) (both-true _ _ (f .form) .0) in
     record {
       lengthFrom = hull .0;
       lengthTo = hull .1;
       breadthFrom = hull .2 .0;
       breadthTo = hull .2 .1;
+      keelTo = hull .2 .2 .1;
       windTo = sky .1;
       zTo = sky .2 .1;
+      massFrom = form .0;
+      massTo = form .1;
+      draughtFrom = form .2 .0;
+      draughtTo = form .2 .1;
+      kmTo = form .2 .2 .1;
       kgTo = f .centre;
     }
 
