@@ -1,6 +1,6 @@
 // The report: 'one frame and LF, 209 characters'. The frame is made in binary first, then written two characters to a byte.
+mod binary;
 mod characters;
-mod numbers;
 
 ghost use mathlib.Core.Path.{_≡_};
 ghost use mathlib.Core.List.{_++_};
@@ -20,8 +20,8 @@ fn put_head(head: &mut [u8], refusal: book::Refusal)
     head[1] = 0x00;
     head[2] = 0x65;
     head[3] = refusal.number;
-    numbers::put(&mut head[4..6], refusal.line as u64);
-    numbers::put(&mut head[6..8], refusal.offset as u64);
+    binary::put(&mut head[4..6], refusal.line as u64);
+    binary::put(&mut head[6..8], refusal.offset as u64);
 }
 
 // The frame in binary: 'D1, length 0065, then refusal 1, line 2, offset 2, eight verdicts, eleven figures'.
@@ -33,8 +33,8 @@ fn put_frame(frame: &mut [u8], refusal: book::Refusal, judgement: book::Judgemen
     let verdicts = judgement.verdicts;
     let figures = judgement.figures;
     put_head(&mut frame[0..8], refusal);
-    numbers::put_verdicts(&mut frame[8..16], verdicts);
-    numbers::put_figures(&mut frame[16..104], figures);
+    binary::put_verdicts(&mut frame[8..16], verdicts);
+    binary::put_figures(&mut frame[16..104], figures);
 }
 
 // Writes the report into the front of a buffer: the frame, two characters to a byte, and LF. Bytes beyond keep their values.

@@ -1,4 +1,4 @@
--- `numbers::put_figures` meets its contract: each figure stands in its own eight bytes, in order.
+-- `binary::put_figures` meets its contract: each figure stands in its own eight bytes, in order.
 use Prim.Native.Nat.{_-_, _*_, _≤_}
 use mathlib.Core.Path.{_≡_, _∙_, ap}
 use mathlib.Core.List.{append-nil}
@@ -12,8 +12,8 @@ use borrow.Author.Needs.{needs}
 use Rattle.rules.specs.Numbers.{digits, twos}
 use Rattle.rules.proofs.layout.Numbers.{length-digits}
 use Rattle.report.proofs.Parts.{written, written-none, written-more, written-length, written-all}
-use Rattle.report.proofs.numbers.put_figures.Statement.{statement}
-use Rattle.report.proofs.numbers.put_figures.Tie as tie
+use Rattle.report.proofs.binary.put_figures.Statement.{statement}
+use Rattle.report.proofs.binary.put_figures.Tie as tie
 
 -- The invariant is that the parts of the first k figures are written, and what follows is as it was.
 

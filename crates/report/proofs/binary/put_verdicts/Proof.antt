@@ -6,8 +6,8 @@ use native.Mathlib.Omega.{arith}
 use lib.Seq.{take-suc, take-suc-set, take-all}
 use lib.ListN.{length, take, length-set}
 use borrow.Author.Needs.{needs}
-use Rattle.report.proofs.numbers.put_verdicts.Statement.{statement}
-use Rattle.report.proofs.numbers.put_verdicts.Tie as tie
+use Rattle.report.proofs.binary.put_verdicts.Statement.{statement}
+use Rattle.report.proofs.binary.put_verdicts.Tie as tie
 
 abbrev Inv-loop : tie.InvT-loop
 Inv-loop part₀ verdicts k₀ part k = (k ≤ 8) × (length part ≡ 8) × (take k part ≡ take k verdicts)

@@ -6,8 +6,8 @@ use mir.Syntax.{w64}
 use mir.ValLaws.{toZ-ofZ}
 use borrow.Author.Needs.{needs}
 use Rattle.rules.specs.Numbers.{twos}
-use Rattle.report.proofs.numbers.put_figure.Statement.{statement}
-use Rattle.report.proofs.numbers.put_figure.Tie as tie
+use Rattle.report.proofs.binary.put_figure.Statement.{statement}
+use Rattle.report.proofs.binary.put_figure.Tie as tie
 
 bits-requires : tie.Need-bits-requires
 bits-requires c κs = search needs

@@ -7,8 +7,8 @@ use native.Mathlib.Omega.{arith}
 use lib.ListN.{drop-of-length-le, length, drop, length-set}
 use Rattle.rules.specs.Numbers.{digits}
 use Rattle.report.proofs.Digits.{rest-more, stored-more}
-use Rattle.report.proofs.numbers.put.Statement.{statement}
-use Rattle.report.proofs.numbers.put.Tie as tie
+use Rattle.report.proofs.binary.put.Statement.{statement}
+use Rattle.report.proofs.binary.put.Tie as tie
 
 abbrev Inv-loop : tie.InvT-loop
 Inv-loop part₀ v n rest₀ k₀ part rest k = (k ≤ n) × (length part ≡ n) × (rest ≡ v / 256 ^ k) × (drop (n - k) part ≡ digits k (v % 256 ^ k))

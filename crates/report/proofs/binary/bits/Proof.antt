@@ -9,8 +9,8 @@ use mir.ValLaws.{toZ-ofZ}
 use borrow.Author.Needs.{needs}
 use Rattle.rules.proofs.layout.Numbers.{twos-lt}
 use Rattle.report.proofs.Below.{less-one, wraps, as-it-is}
-use Rattle.report.proofs.numbers.bits.Statement.{statement}
-use Rattle.report.proofs.numbers.bits.Tie as tie
+use Rattle.report.proofs.binary.bits.Statement.{statement}
+use Rattle.report.proofs.binary.bits.Tie as tie
 
 sub-magnitude : tie.Need-sub-magnitude
 sub-magnitude c =
