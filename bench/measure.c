@@ -1,7 +1,7 @@
 /* How many instructions a program takes, and how deep its stack grows: a plugin for Debian's qemu-user. Each block of code adds its
-   length whenever it is run; what wavers from run to run, by some hundreds, is the start of the process. The first store of a program is the return address that its entry
-   pushes; from there down, the lowest address that is stored to within a mebibyte is the end of the stack. The few names of the
-   plugin interface (version 1) that it needs stand here, since Debian ships no header. */
+   length whenever it is run; what wavers from run to run, by some hundreds, is the start of the process. The first store of a program
+   is the return address that its entry pushes; from there down, the lowest address that is stored to within a mebibyte is the end of
+   the stack. The few names of the plugin interface (version 1) that it needs stand here, since Debian ships no header. */
 #include <inttypes.h>
 #include <stddef.h>
 #include <stdio.h>

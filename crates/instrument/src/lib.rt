@@ -38,12 +38,7 @@ fn send(judgement: Judgement, report: &mut [u8]) -> u8
     requires { ⌜ reportLength ≤ length (now report) ⌝ }
     ensures { λ r. ⌜ SentJudged judgement (now (report .entry)) r (now (report .exit)) ⌝ }
 {
-    let none = Refusal {
-        number: 0,
-        line: 0,
-        offset: 0,
-    };
-    report::write(report, none, judgement);
+    report::write(report, book::NO_REFUSAL, judgement);
     0
 }
 
