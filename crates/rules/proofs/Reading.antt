@@ -3,16 +3,16 @@
 use mathlib.Core.Path.{_≡_, sym}
 use mathlib.Core.Logic.{_↔_, _≢_}
 use mathlib.Core.List.{List, _∷_, _++_}
-use Prim.Native.Nat.{ℕ, _+_, _≤_, _<_}
+use Prim.Native.Nat.{ℕ, _+_, _*_, _≤_, _<_}
 use lib.ListN.{length, getD}
 use Rattle.rules.specs.Rounding.{ceil}
 use Rattle.rules.specs.Text.{LF, text, Lines}
-use Rattle.rules.specs.Blocks.{conditionTag}
+use Rattle.rules.specs.Blocks.{conditionTag, Tank, ordinary, cargo, tank}
 use Rattle.rules.specs.Layout.{Entries, Reading, frames, spellText, leaves, mostCharacters, Limits, Allowed}
 use Rattle.rules.specs.Outcome.{refused, got}
-use Rattle.rules.specs.Walk.{linesFrom, read}
-use Rattle.rules.specs.Loading.{flat, mass, moment, freeSurface, displacement, correctedKG, entriesOf}
-use Rattle.rules.specs.Leaves.{sumLeaves, ungrouped, loadedWith}
+use Rattle.rules.specs.Walk.{linesFrom, one, blockAt, read}
+use Rattle.rules.specs.Loading.{flat, mass, moment, freeSurfaceOf, freeSurface, displacement, correctedKG, entriesOf}
+use Rattle.rules.specs.Leaves.{sumLeaves, MadeCargo, ungrouped, loadedWith}
 use Rattle.rules.specs.Places.{LinesFill, SameBefore, lookedAt, LineAt, Placed}
 use Rattle.rules.specs.Met.{Met, Overruns, NoLF, NoLine, FirstNoLine}
 use Rattle.rules.specs.Answer.{judged, answered}
@@ -20,6 +20,7 @@ use Rattle.rules.proofs.walk.WholeText.{sound, lines-of-reading, readin
 use Rattle.rules.proofs.walk.Refusals.{number-of-refusal, not-both, unrefused-iff-allowed}
 use Rattle.rules.proofs.layout.InsideParent.{reading-fills}
 use Rattle.rules.proofs.loading.Sums.{leaves-flat, displacement-leaves, correctedKG-leaves, flat-ungrouped, judged-same}
+use Rattle.rules.proofs.loading.Cargo.{cargo-moment, refused-alike, read-alike, limits-alike, sums-made-cargo}
 use Rattle.rules.proofs.walk.OnlyOverrun.{two-overrun}
 use Rattle.rules.proofs.bench.Drawing.{drawing, drawing-refused}
 use Rattle.rules.proofs.walk.FirstFault.{fault-stands}
@@ -64,6 +65,28 @@ groups-mean-nothing r = judged-same r (ungrouped (r .condition .load)) (r .condi
 -- Any two loads with the same entries in the same order are judged alike, however they are grouped.
 pub grouping-free : (r : Reading) (F G : Entries) → flat F ≡ flat G → judged (loadedWith r F) ≡ judged (loadedWith r G)
 grouping-free r F G e = judged-same r F G e
+
+-- ---- cargo tanks
+-- The free surface moment of a C5 with a fill above 0 is its full moment, whatever the fill.
+pub cargo-never-forgiven : (t : Tank) → 0 < t .fill → freeSurfaceOf (tank cargo) t ≡ 1000 * t .density * t .inertia
+cargo-never-forgiven t h = cargo-moment t h
+
+-- A C5 is tested as a C3: with any body, at any place, with any number of depths and entries left, the one is refused exactly when the other is, with the same number, line and offset; and where they are not, both hold the same values.
+pub tested-as-tank : (ln d n at : ℕ) (body : List ℕ) → ((m l o : ℕ) → (blockAt ln d n at 0xC5 body ≡ refused m l o) ↔ (blockAt ln d n at 0xC3 body ≡ refused m l o))
+    × ((t : Tank) → (blockAt ln d n at 0xC5 body ≡ got (one (tank cargo) t)) ↔ (blockAt ln d n at 0xC3 body ≡ got (one (tank ordinary) t)))
+tested-as-tank ln d n at body = (
+  λ m l o. (refused-alike ln d n at body cargo ordinary, refused-alike ln d n at body ordinary cargo),
+  λ t. (read-alike ln d n at body cargo ordinary t, read-alike ln d n at body ordinary cargo t),
+)
+
+-- It is allowed wherever a C3 is, in the condition and in groups of any depth: a reading with one of its C3s made a C5 is within the limits exactly when it was.
+pub cargo-where-tank : (t : Tank) (r : Reading) (G : Entries) → MadeCargo t (r .condition .load) G → Limits r ↔ Limits (loadedWith r G)
+cargo-where-tank t r G made = limits-alike r G made
+
+-- The kind decides the free surface and nothing else: with a C3 made a C5 the sums of masses and of moments stay, and that of free surface moments has the C5's in the place of the C3's.
+pub kind-decides-surface : (t : Tank) (F G : Entries) → MadeCargo t F G → (sumLeaves mass F ≡ sumLeaves mass G) × (sumLeaves moment F ≡ sumLeaves moment G)
+    × (sumLeaves freeSurface F + freeSurfaceOf (tank cargo) t ≡ sumLeaves freeSurface G + freeSurfaceOf (tank ordinary) t)
+kind-decides-surface t F G made = sums-made-cargo made
 
 -- ---- what is refused
 -- A text of lines within 12,000 characters is refused with 2 at a line and an offset exactly where a block is met there whose length runs past its parent, or one or two bytes where a block would begin.

@@ -5,3 +5,4 @@ pub mod Page
 pub mod Slips
 pub mod Drawing
 pub mod Regrouped
+pub mod CargoTank

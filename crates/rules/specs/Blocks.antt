@@ -119,7 +119,7 @@ pub record Item : Type 0 where
   pub mass : ℕ
   pub centre : ℕ
 
--- ---- C3 tank: mass and centre as C2, fill in 0.1 %, density in kg/m³, inertia in m⁴
+-- ---- C3 tank, C5 cargo tank (request 1): mass and centre as C2, fill in 0.1 %, density in kg/m³, inertia in m⁴
 pub record Tank : Type 0 where
   pub mass : ℕ
   pub centre : ℕ
@@ -131,18 +131,28 @@ pub record Tank : Type 0 where
 abbrev pub fillRule : Tank → Bool
 fillRule t = ltb 0 (t .fill) || eqb (t .mass) 0
 
+-- The kinds of tank: those of 01, and request 1's 'for cargo tanks'.
+pub data TankKind : Type 0 where
+  ordinary cargo : TankKind
+
 -- The kinds of entry, and what an entry of each kind holds.
 pub data Load : Type 0 where
-  item tank : Load
+  item : Load
+  tank : TankKind → Load
 
 abbrev pub Values : Load → Type 0
 Values item = Item
-Values tank = Tank
+Values (tank k) = Tank
 
 -- Mass and centre have the limits of C2 in every kind of entry.
 abbrev pub massAndCentre : List Field
 massAndCentre = field 4 0 600_000_000 ∷ field 2 0 60_000 ∷ []
 
+abbrev pub tankTag : TankKind → ℕ
+tankTag ordinary = 0xC3
+tankTag cargo = 0xC5
+
+-- 'A block C5, laid out and limited as C3': the tag apart, one table for both.
 abbrev pub entry : (k : Load) → Layout (Values k)
 entry item = record {
   tag = 0xC2;
@@ -151,8 +161,8 @@ entry item = record {
   named = λ v. record { mass = getD v 0 0; centre = getD v 1 0 };
   further = no-more;
 }
-entry tank = record {
-  tag = 0xC3;
+entry (tank k) = record {
+  tag = tankTag k;
   fields = massAndCentre ++ (field 2 0 1_000 ∷ field 2 0 2_000 ∷ field 4 0 100_000 ∷ []);
   listed = λ t. t .mass ∷ t .centre ∷ t .fill ∷ t .density ∷ t .inertia ∷ [];
   named = λ v. record { mass = getD v 0 0; centre = getD v 1 0; fill = getD v 2 0; density = getD v 3 0; inertia = getD v 4 0 };

@@ -4,7 +4,7 @@ use mathlib.Core.List.{List, [], _∷_, _++_}
 use Prim.Native.Nat.{ℕ, _+_, _*_}
 use lib.Dec.{leb, ltb}
 use Rattle.rules.specs.Rounding.{ceil}
-use Rattle.rules.specs.Blocks.{Row, Load, item, tank, Values}
+use Rattle.rules.specs.Blocks.{Row, Tank, TankKind, ordinary, cargo, Load, item, tank, Values}
 use Rattle.rules.specs.Layout.{Entries, end, leaf, group, Reading}
 use Rattle.rules.specs.Outcome.{Ans, test, _>>=_, _>>_}
 
@@ -25,20 +25,29 @@ total f (e ∷ es) = f e + total f es
 
 abbrev pub massOf : (k : Load) → Values k → ℕ
 massOf item v = v .mass
-massOf tank v = v .mass
+massOf (tank k) v = v .mass
 
 abbrev pub centreOf : (k : Load) → Values k → ℕ
 centreOf item v = v .centre
-centreOf tank v = v .centre
+centreOf (tank k) v = v .centre
 
 -- 'Nominally full from 98 %', in 0.1 %.
 abbrev pub nominallyFull : ℕ
 nominallyFull = 980
 
--- 'Free surface moment of a tank = 1000 x density x inertia if 0 < fill < 980, else 0.'
+-- The fills at which the free surface of a tank counts: 'if 0 < fill < 980'; a cargo tank's 'from fill 1 upward, 1,000 included' (request 1).
+abbrev pub surfaceCounts : TankKind → ℕ → Bool
+surfaceCounts ordinary fill = ltb 0 fill && ltb fill nominallyFull
+surfaceCounts cargo fill = ltb 0 fill
+
+-- 'Free surface moment of a tank = 1000 x density x inertia if ..'
+abbrev pub surfaceMoment : Tank → ℕ
+surfaceMoment t = 1000 * t .density * t .inertia
+
+-- '.., else 0.'
 abbrev pub freeSurfaceOf : (k : Load) → Values k → ℕ
 freeSurfaceOf item v = 0
-freeSurfaceOf tank v = cond (ltb 0 (v .fill) && ltb (v .fill) nominallyFull) (1000 * v .density * v .inertia) 0
+freeSurfaceOf (tank k) v = cond (surfaceCounts k (v .fill)) (surfaceMoment v) 0
 
 abbrev pub mass : Entry → ℕ
 mass e = massOf (e .kind) (e .values)

@@ -7,7 +7,7 @@ use lib.Dec.{leb, ltb, eqb}
 use lib.ListN.{length, take, drop}
 use Rattle.rules.specs.Numbers.{num, full}
 use Rattle.rules.specs.Text.{LF}
-use Rattle.rules.specs.Blocks.{Layout, ok, values, within, size, Ship, ship, Row, row, conditionTag, Weather, weather, Load, item, tank, Values, entry, groupTag}
+use Rattle.rules.specs.Blocks.{Layout, ok, values, within, size, Ship, ship, Row, row, conditionTag, Weather, weather, ordinary, cargo, Load, item, tank, Values, entry, groupTag}
 use Rattle.rules.specs.Layout.{Entries, end, leaf, group, leaves, Condition, Reading, fewestRows, mostRows, mostDepth, mostEntries, mostBytes, mostCharacters}
 use Rattle.rules.specs.Outcome.{Ans, refused, got, test, _>>=_, _>>_}
 
@@ -84,7 +84,7 @@ pub data Tag : Type 0 where
 
 -- 4: tag not allowed there.
 unfoldable pub tagOf : ℕ → ℕ → ℕ → Ans Tag
-tagOf ln at t = cond (eqb t (entry item .tag)) (got (load item)) (cond (eqb t (entry tank .tag)) (got (load tank)) (cond (eqb t groupTag) (got nested) (refused 4 ln at)))
+tagOf ln at t = cond (eqb t (entry item .tag)) (got (load item)) (cond (eqb t (entry (tank ordinary) .tag)) (got (load (tank ordinary))) (cond (eqb t (entry (tank cargo) .tag)) (got (load (tank cargo))) (cond (eqb t groupTag) (got nested) (refused 4 ln at))))
 
 -- An entry or a group that has passed its tests.
 pub data Block : Type 0 where

@@ -4,7 +4,7 @@ use mathlib.Core.List.{List, [], _∷_, _++_}
 use Prim.Native.Nat.{ℕ, _-_, _≤_}
 use native.Mathlib.Omega.{arith}
 use lib.ListN.{length}
-use Rattle.rules.specs.Blocks.{block, spellValues, within, ok, spellBlock, Ship, Row, conditionTag, Weather, weather, Tank, tank, entry, groupTag}
+use Rattle.rules.specs.Blocks.{block, spellValues, within, ok, spellBlock, Ship, Row, conditionTag, Weather, weather, Tank, ordinary, tank, entry, groupTag}
 use Rattle.rules.specs.Layout.{end, spell, leaves, Rising, mostDepth, mostEntries, mostCharacters}
 use Rattle.rules.specs.Outcome.{refused, got}
 use Rattle.rules.specs.Walk.{linesFrom, read}
@@ -35,10 +35,10 @@ aTank = record { mass = 700_000; centre = 4_000; fill = 500; density = 1_025; in
 
 -- What the outer group holds: the inner group's head, and one tank.
 abbrev held : List ℕ
-held = groupTag ∷ 0 ∷ 34 ∷ spellBlock (entry tank) aTank
+held = groupTag ∷ 0 ∷ 34 ∷ spellBlock (entry (tank ordinary)) aTank
 
 abbrev drawn : List (List ℕ)
-drawn = lead hull rows (block conditionTag (spellBlock weather sky ++ (block groupTag held ++ spellBlock (entry tank) aTank)) ∷ [])
+drawn = lead hull rows (block conditionTag (spellBlock weather sky ++ (block groupTag held ++ spellBlock (entry (tank ordinary)) aTank)) ∷ [])
 
 drawn-is : linesFrom 1 drawing ≡ got drawn
 unfolding read block spellBlock spellValues behindRows
@@ -48,8 +48,8 @@ drawn-is = refl
 drawn-met : Met drawn 4 21 held
 unfolding block spellBlock spellValues spell leaves Rising ok within
 drawn-met =
-    entryBlock hull rows sky (block groupTag held ++ spellBlock (entry tank) aTank) [] (record { hull = refl; rising = (refl, omega arith, (refl, omega arith, tt)); many = omega arith }) (omega arith) refl (omega arith)
-    (nestedIn end held (spellBlock (entry tank) aTank) (none-pass mostDepth mostEntries) (omega arith) (behind end held (none-pass (mostDepth - 1) mostEntries)))
+    entryBlock hull rows sky (block groupTag held ++ spellBlock (entry (tank ordinary)) aTank) [] (record { hull = refl; rising = (refl, omega arith, (refl, omega arith, tt)); many = omega arith }) (omega arith) refl (omega arith)
+    (nestedIn end held (spellBlock (entry (tank ordinary)) aTank) (none-pass mostDepth mostEntries) (omega arith) (behind end held (none-pass (mostDepth - 1) mostEntries)))
 
 drawn-overruns : Overruns held
 unfolding block spellBlock spellValues

@@ -9,7 +9,7 @@ use lib.Seq.{drop-cons, take-at, drop-at}
 use lib.Dec.{ltb, leb}
 use borrow.Author.Tests.{ltb-true, leb-true}
 use Rattle.rules.specs.Numbers.{digits, Bytes}
-use Rattle.rules.specs.Blocks.{Field, field, size, values, spellValues, within, Layout, ok, ship, row, weather, Load, item, tank, entry}
+use Rattle.rules.specs.Blocks.{Field, field, size, values, spellValues, within, Layout, ok, ship, row, weather, TankKind, ordinary, cargo, tankTag, Load, item, tank, entry}
 use Rattle.rules.proofs.layout.Numbers.{Bytes-take, Bytes-drop, Bytes-append, Bytes-digits, length-digits, num-digits, digits-num}
 
 pub both-true : (a b : Bool) → (a && b) ≡ true → (a ≡ true) × (b ≡ true)
@@ -136,7 +136,11 @@ weather-lawful = record { named-listed = λ a. refl; listed-named = each 5; limi
 pub entry-lawful : (k : Load) → Lawful (entry k)
 unfolding narrow size
 entry-lawful item = record { named-listed = λ a. refl; listed-named = each 2; limits = refl; tag-fits = omega arith; size-fits = omega arith }
-entry-lawful tank = record { named-listed = λ a. refl; listed-named = each 5; limits = refl; tag-fits = omega arith; size-fits = omega arith }
+entry-lawful (tank k) = record { named-listed = λ a. refl; listed-named = each 5; limits = refl; tag-fits = tag-fits k; size-fits = omega arith }
+  where
+    tag-fits : (k : TankKind) → tankTag k < 256
+    tag-fits ordinary = omega arith
+    tag-fits cargo = omega arith
 
 -- ---- limits, field by field
 -- The field of a number, and a value between its limits.

@@ -8,7 +8,7 @@ use lib.ListN.{length}
 use lib.Dec.{ltb, eqb}
 use borrow.Author.Tests.{ltb-true, eqb-true, lt-ltb}
 use Rattle.rules.specs.Numbers.{Bytes, full}
-use Rattle.rules.specs.Blocks.{block, spellValues, ok, spellBlock, Load, item, tank, Values, entry, groupTag}
+use Rattle.rules.specs.Blocks.{block, spellValues, ok, spellBlock, ordinary, cargo, Load, item, tank, Values, entry, groupTag}
 use Rattle.rules.specs.Layout.{Entries, end, leaf, group, spell, leaves, depth, some, Good}
 use Rattle.rules.specs.Outcome.{refused, got}
 use Rattle.rules.specs.Walk.{Head, Tag, load, nested, tagOf, Block, one, nest, begun, blockAt, Walk, step, walk, entries}
@@ -65,14 +65,15 @@ BlockSpelled d n h nest = (groupTag ≡ h .tag) × (0 < d) × (full (h .body) �
 module _ (ln : ℕ) where
   tagOf-sound : (at t : ℕ) (x : Tag) → tagOf ln at t ≡ got x → code x ≡ t
   unfolding tagOf
-  tagOf-sound at t x e = go (eqb t (entry item .tag)) (eqb t (entry tank .tag)) (eqb t groupTag) refl refl refl e
+  tagOf-sound at t x e = go (eqb t (entry item .tag)) (eqb t (entry (tank ordinary) .tag)) (eqb t (entry (tank cargo) .tag)) (eqb t groupTag) refl refl refl refl e
     where
-      go : (a b c : Bool) → eqb t (entry item .tag) ≡ a → eqb t (entry tank .tag) ≡ b → eqb t groupTag ≡ c
-          → cond a (got (load item)) (cond b (got (load tank)) (cond c (got nested) (refused 4 ln at))) ≡ got x → code x ≡ t
-      go true b c p q r e = let z : load item ≡ x = cc in rw (← z) (sym (eqb-true _ _ p))
-      go false true c p q r e = let z : load tank ≡ x = cc in rw (← z) (sym (eqb-true _ _ q))
-      go false false true p q r e = let z : nested ≡ x = cc in rw (← z) (sym (eqb-true _ _ r))
-      go false false false p q r e = refused-got e
+      go : (a b c d : Bool) → eqb t (entry item .tag) ≡ a → eqb t (entry (tank ordinary) .tag) ≡ b → eqb t (entry (tank cargo) .tag) ≡ c → eqb t groupTag ≡ d
+          → cond a (got (load item)) (cond b (got (load (tank ordinary))) (cond c (got (load (tank cargo))) (cond d (got nested) (refused 4 ln at)))) ≡ got x → code x ≡ t
+      go true b c d p q r s e = let z : load item ≡ x = cc in rw (← z) (sym (eqb-true _ _ p))
+      go false true c d p q r s e = let z : load (tank ordinary) ≡ x = cc in rw (← z) (sym (eqb-true _ _ q))
+      go false false true d p q r s e = let z : load (tank cargo) ≡ x = cc in rw (← z) (sym (eqb-true _ _ r))
+      go false false false true p q r s e = let z : nested ≡ x = cc in rw (← z) (sym (eqb-true _ _ s))
+      go false false false false p q r s e = refused-got e
 
   begun-nested : (d n at : ℕ) (body : List ℕ) (b : Block) → begun ln d n at body nested ≡ got b → (nest ≡ b) × (0 < d) × (full body ≡ true)
   unfolding begun
@@ -143,7 +144,8 @@ module _ (ln : ℕ) where
   tagOf-got : (at : ℕ) (x : Tag) → tagOf ln at (code x) ≡ got x
   unfolding tagOf
   tagOf-got at (load item) = refl
-  tagOf-got at (load tank) = refl
+  tagOf-got at (load (tank ordinary)) = refl
+  tagOf-got at (load (tank cargo)) = refl
   tagOf-got at nested = refl
 
   -- An entry within its limits, and a group with something in it, pass their tests.

@@ -9,7 +9,7 @@ use lib.ListN.{length}
 use lib.Dec.{ltb, leb, eqb}
 use borrow.Author.Tests.{leb-false}
 use Rattle.rules.specs.Numbers.{num}
-use Rattle.rules.specs.Blocks.{Layout, ship, row, conditionTag, weather, item, tank, entry, groupTag}
+use Rattle.rules.specs.Blocks.{Layout, ship, row, conditionTag, weather, ordinary, cargo, item, tank, entry, groupTag}
 use Rattle.rules.specs.Layout.{Reading, leaves, mostDepth, mostEntries, Allowed}
 use Rattle.rules.specs.Outcome.{Ans, refused, got, test, _>>=_, _>>_}
 use Rattle.rules.specs.Walk.{nibble, unhex, split, decode, linesFrom, Head, header, fixed, Tag, load, nested, tagOf, Block, one, nest, begun, blockAt, Walk, step, walk, entries, weatherAt, loadAt, inside, conditionIn, fixedIn, shipFrame, rowIn, Frame, aRow, aCondition, frameOf, Found, tableRow, theCondition, found, frameAt, closed, after, tail, readFrames, read}
@@ -116,13 +116,14 @@ module _ (ln : ℕ) where
 
   tagOf-refusal : (at t : ℕ) → Refusal (At 3 ln at) (tagOf ln at t)
   unfolding tagOf
-  tagOf-refusal at t = go (eqb t (entry item .tag)) (eqb t (entry tank .tag)) (eqb t groupTag)
+  tagOf-refusal at t = go (eqb t (entry item .tag)) (eqb t (entry (tank ordinary) .tag)) (eqb t (entry (tank cargo) .tag)) (eqb t groupTag)
     where
-      go : (a b c : Bool) → Refusal (At 3 ln at) (cond a (got (load item)) (cond b (got (load tank)) (cond c (got nested) (refused 4 ln at))))
-      go true b c = given
-      go false true c = given
-      go false false true = given
-      go false false false = plain (omega arith)
+      go : (a b c d : Bool) → Refusal (At 3 ln at) (cond a (got (load item)) (cond b (got (load (tank ordinary))) (cond c (got (load (tank cargo))) (cond d (got nested) (refused 4 ln at)))))
+      go true b c d = given
+      go false true c d = given
+      go false false true d = given
+      go false false false true = given
+      go false false false false = plain (omega arith)
 
   pub block-refusal : (d n at t : ℕ) (body : List ℕ) → Refusal (At 3 ln at) (blockAt ln d n at t body)
   unfolding blockAt begun
