@@ -1,6 +1,6 @@
 //! What a sound text says: the ship, its rows of hydrostatics, and one loading
-//! condition with its tree of items, tanks and groups. Lengths are in
-//! millimetres, masses in kilograms, angles in tenths of a degree.
+//! condition with its tree of items, tanks, cargo tanks and groups. Lengths
+//! are in millimetres, masses in kilograms, angles in tenths of a degree.
 
 #[derive(Clone, Debug, PartialEq)]
 pub struct Ship {
@@ -44,6 +44,7 @@ pub struct Liquid {
 pub enum Entry {
     Item(Weight),
     Tank(Weight, Liquid),
+    Cargo(Weight, Liquid),
     Group(Vec<Entry>),
 }
 

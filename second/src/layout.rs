@@ -8,6 +8,7 @@ pub const C1: u8 = 0xC1;
 pub const C2: u8 = 0xC2;
 pub const C3: u8 = 0xC3;
 pub const C4: u8 = 0xC4;
+pub const C5: u8 = 0xC5;
 
 #[derive(Clone, Copy, Debug)]
 pub struct Field {
@@ -73,7 +74,7 @@ pub fn fields(tag: u8) -> Option<&'static [Field]> {
         A2 => Some(&ROW),
         C1 => Some(&WEATHER),
         C2 => Some(&ITEM),
-        C3 => Some(&TANK),
+        C3 | C5 => Some(&TANK),
         _ => None,
     }
 }
@@ -98,7 +99,7 @@ pub fn values(tag: u8, body: &[u8]) -> Option<Vec<i128>> {
         values.push(value);
         rest = others;
     }
-    if tag == C3 && values[2] == 0 && values[0] != 0 {
+    if matches!(tag, C3 | C5) && values[2] == 0 && values[0] != 0 {
         return None;
     }
     Some(values)
@@ -110,8 +111,32 @@ mod tests {
 
     #[test]
     fn sizes_of_the_table() {
-        let sizes = [A1, A2, C1, C2, C3].map(size_of);
-        assert_eq!(sizes, [Some(13), Some(34), Some(12), Some(6), Some(14)]);
+        let sizes = [A1, A2, C1, C2, C3, C5].map(size_of);
+        assert_eq!(sizes, [13, 34, 12, 6, 14, 14].map(Some));
         assert_eq!((size_of(A3), size_of(C4)), (None, None));
+    }
+
+    /// A body of a tank with these values.
+    fn tank(values: [u32; 5]) -> Vec<u8> {
+        let [mass, centre, fill, density, inertia] = values.map(u32::to_be_bytes);
+        [&mass[..], &centre[2..], &fill[2..], &density[2..], &inertia].concat()
+    }
+
+    #[test]
+    fn both_kinds_of_tanks_have_the_same_limits() {
+        let most = [600_000_000, 60_000, 1_000, 2_000, 100_000];
+        for tag in [C3, C5] {
+            let taken = |tried: [u32; 5]| values(tag, &tank(tried));
+            assert_eq!(taken(most), Some(most.map(i128::from).to_vec()));
+            assert_eq!(taken([0; 5]), Some(vec![0; 5]));
+            for field in 0..5 {
+                let mut beyond = most;
+                beyond[field] += 1;
+                assert_eq!(taken(beyond), None);
+            }
+            for (mass, fill, allowed) in [(0, 0, true), (1, 0, false), (0, 1, true), (1, 1, true)] {
+                assert_eq!(taken([mass, 0, fill, 0, 0]).is_some(), allowed);
+            }
+        }
     }
 }

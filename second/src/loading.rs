@@ -1,7 +1,7 @@
 //! The loading condition: total mass, the corrected KG, and the ship's
 //! draught, KM and KN at that displacement.
 
-use crate::book::{Document, Entry, Liquid, Row};
+use crate::book::{Document, Entry, Liquid, Row, Weight};
 use crate::line::{between, down, up};
 use crate::refusal::Refusal;
 
@@ -27,19 +27,31 @@ impl Laden {
 pub fn sums(entries: &[Entry]) -> (i128, i128) {
     entries.iter().fold((0, 0), |(mass, moment), entry| {
         let (more_mass, more_moment) = match entry {
-            Entry::Item(weight) => (weight.mass, weight.mass * weight.centre),
-            Entry::Tank(weight, liquid) => (
-                weight.mass,
-                weight.mass * weight.centre + free_surface(liquid),
-            ),
+            Entry::Item(weight) => counted(weight, 0),
+            Entry::Tank(weight, liquid) => counted(weight, of_tank(liquid)),
+            Entry::Cargo(weight, liquid) => counted(weight, of_cargo_tank(liquid)),
             Entry::Group(inner) => sums(inner),
         };
         (mass + more_mass, moment + more_moment)
     })
 }
 
-fn free_surface(liquid: &Liquid) -> i128 {
-    if liquid.fill > 0 && liquid.fill < NOMINALLY_FULL {
+fn counted(weight: &Weight, surface: i128) -> (i128, i128) {
+    (weight.mass, weight.mass * weight.centre + surface)
+}
+
+/// The free surface moment of a tank: none from where it is nominally full.
+fn of_tank(liquid: &Liquid) -> i128 {
+    if liquid.fill < NOMINALLY_FULL {
+        of_cargo_tank(liquid)
+    } else {
+        0
+    }
+}
+
+/// The free surface moment of a cargo tank: at every fill but 0.
+fn of_cargo_tank(liquid: &Liquid) -> i128 {
+    if liquid.fill > 0 {
         1_000 * liquid.density * liquid.inertia
     } else {
         0
@@ -88,17 +100,48 @@ pub fn rows_around(rows: &[Row], displacement: i128) -> Option<(&Row, &Row)> {
 mod tests {
     use super::*;
 
-    fn tank(fill: i128) -> i128 {
-        free_surface(&Liquid {
-            fill,
-            density: 1_025,
-            inertia: 7,
+    const FILLS: [i128; 6] = [0, 1, 979, 980, 985, 1_000];
+    const MOMENT: i128 = 7_175_000;
+
+    /// The moment of an entry without a mass, at each of the fills.
+    fn moments(entry: fn(Weight, Liquid) -> Entry) -> [i128; 6] {
+        FILLS.map(|fill| {
+            let weight = Weight { mass: 0, centre: 9 };
+            let liquid = Liquid {
+                fill,
+                density: 1_025,
+                inertia: 7,
+            };
+            sums(&[entry(weight, liquid)]).1
         })
     }
 
     #[test]
     fn free_surface_between_empty_and_nominally_full() {
-        let moments = [0, 1, 979, 980, 1_000].map(tank);
-        assert_eq!(moments, [0, 7_175_000, 7_175_000, 0, 0]);
+        assert_eq!(moments(Entry::Tank), [0, MOMENT, MOMENT, 0, 0, 0]);
+    }
+
+    #[test]
+    fn free_surface_of_a_cargo_tank_at_every_fill_but_0() {
+        let [empty, others @ ..] = moments(Entry::Cargo);
+        assert_eq!((empty, others), (0, [MOMENT; 5]));
+    }
+
+    #[test]
+    fn a_cargo_tank_weighs_as_a_tank_does() {
+        for fill in FILLS {
+            let liquid = Liquid {
+                fill,
+                density: 0,
+                inertia: 7,
+            };
+            let weight = Weight {
+                mass: 3,
+                centre: 50,
+            };
+            let entries = [Entry::Cargo, Entry::Tank].map(|of| of(weight.clone(), liquid.clone()));
+            assert_eq!(sums(&entries[..1]), (3, 150));
+            assert_eq!(sums(&[Entry::Group(entries.to_vec())]), (6, 300));
+        }
     }
 }

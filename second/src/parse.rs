@@ -1,9 +1,10 @@
 //! From lines to the document: each line is a frame, a frame is a block, and
-//! A3 holds a tree of items, tanks and groups. Blocks are tested as they
-//! begin, in the order 2, 4, 3, 5, 6; the first fault met ends the reading.
+//! A3 holds a tree of items, tanks, cargo tanks and groups. Blocks are tested
+//! as they begin, in the order 2, 4, 3, 5, 6; the first fault met ends the
+//! reading.
 
 use crate::book::{Condition, Document, Entry, Liquid, Row, Ship, Weather, Weight};
-use crate::layout::{self, values, A1, A2, A3, C1, C2, C3, C4};
+use crate::layout::{self, values, A1, A2, A3, C1, C2, C3, C4, C5};
 use crate::refusal::Refusal;
 
 pub const FEWEST_ROWS: usize = 2;
@@ -166,6 +167,14 @@ fn weather(values: &[i128]) -> Weather {
     }
 }
 
+fn liquid(values: &[i128]) -> Liquid {
+    Liquid {
+        fill: values[2],
+        density: values[3],
+        inertia: values[4],
+    }
+}
+
 fn condition(line: &Line, frame: &Block) -> Result<Condition, Refusal> {
     if frame.body.len() > MOST_CONDITION || frame.body.is_empty() {
         return line.refuse(5, frame.offset);
@@ -230,7 +239,7 @@ impl<'a> Loading<'a> {
     fn begin(&mut self, block: &Block) -> Result<usize, Refusal> {
         match block.tag {
             C4 => self.group(block),
-            C2 | C3 => self.entry(block),
+            C2 | C3 | C5 => self.entry(block),
             _ => self.line.refuse(4, block.offset),
         }
     }
@@ -257,14 +266,8 @@ impl<'a> Loading<'a> {
             centre: values[1],
         };
         let entry = match block.tag {
-            C3 => Entry::Tank(
-                weight,
-                Liquid {
-                    fill: values[2],
-                    density: values[3],
-                    inertia: values[4],
-                },
-            ),
+            C3 => Entry::Tank(weight, liquid(&values)),
+            C5 => Entry::Cargo(weight, liquid(&values)),
             _ => Entry::Item(weight),
         };
         self.counted += 1;

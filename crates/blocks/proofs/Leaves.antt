@@ -7,7 +7,7 @@ use native.Mathlib.Omega.{arith}
 use lib.ListN.{length}
 use lib.Dec.{ltb}
 use borrow.Author.Tests.{lt-ltb, le-ltb, ne-eqb}
-use Rattle.rules.specs.Blocks.{size, values, ok, Load, item, tank, Values, entry, groupTag}
+use Rattle.rules.specs.Blocks.{size, values, ok, ordinary, cargo, Load, item, tank, Values, entry, groupTag}
 use Rattle.rules.specs.Outcome.{Ans, refused, got, _>>=_}
 use Rattle.rules.specs.Walk.{fixed, load, nested, tagOf, one, begun, blockAt}
 use Rattle.rules.proofs.walk.Outcome.{bind-got, bind-refused}
@@ -70,7 +70,8 @@ leaf-block k (got v) = refl
 load-tag : (ln at t : ℕ) (k : Load) → t ≡ entry k .tag → tagOf ln at t ≡ got (load k)
 unfolding tagOf
 load-tag ln at t item e = rw e
-load-tag ln at t tank e = rw e
+load-tag ln at t (tank ordinary) e = rw e
+load-tag ln at t (tank cargo) e = rw e
 
 module _ (ln d n at t : ℕ) (body : List ℕ) where
   pub block-load : (k : Load) → t ≡ entry k .tag → blockOf (blockAt ln d n at t body) ≡ leafOf k (fixed ln (entry k) (ltb 0 n) at body)
@@ -81,6 +82,6 @@ module _ (ln d n at t : ℕ) (body : List ℕ) where
   unfolding blockAt begun tagOf
   block-group e = bind-got {a = nested} _ (rw e)
 
-  pub block-other : (t ≡ entry item .tag → ⊥) → (t ≡ entry tank .tag → ⊥) → (t ≡ groupTag → ⊥) → blockAt ln d n at t body ≡ refused 4 ln at
+  pub block-other : (t ≡ entry item .tag → ⊥) → (t ≡ entry (tank ordinary) .tag → ⊥) → (t ≡ groupTag → ⊥) → (t ≡ entry (tank cargo) .tag → ⊥) → blockAt ln d n at t body ≡ refused 4 ln at
   unfolding blockAt tagOf
-  block-other a b c = bind-refused _ (rw (ne-eqb t (entry item .tag) a, ne-eqb t (entry tank .tag) b, ne-eqb t groupTag c))
+  block-other a b c d = bind-refused _ (rw (ne-eqb t (entry item .tag) a, ne-eqb t (entry (tank ordinary) .tag) b, ne-eqb t groupTag c, ne-eqb t (entry (tank cargo) .tag) d))

@@ -6,7 +6,7 @@ use Prim.Native.Nat.{ℕ, _≤_}
 use native.Mathlib.Omega.{arith}
 use lib.ListN.{replicate}
 use lib.Dec.{ltb, leb, eqb}
-use Rattle.rules.specs.Blocks.{field, within, ok, ship, row, weather, item, tank, entry}
+use Rattle.rules.specs.Blocks.{field, within, ok, ship, row, weather, TankKind, item, tank, entry}
 use Rattle.rules.proofs.layout.Fields.{both-true, Limited, limited}
 
 abbrev pub fit : ℕ → ℕ → ℕ → Bool
@@ -20,9 +20,9 @@ pub ok-item : (m c : ℕ) → ok (entry item) (record { mass = m; centre = c }) 
 unfolding ok within
 ok-item m c = simp and-right
 
-pub ok-tank : (m c f d i : ℕ) → ok (entry tank) (record { mass = m; centre = c; fill = f; density = d; inertia = i }) ≡ ((fit m 0 600_000_000 && (fit c 0 60_000 && (fit f 0 1_000 && (fit d 0 2_000 && fit i 0 100_000)))) && (ltb 0 f || eqb m 0))
+pub ok-tank : (k : TankKind) (m c f d i : ℕ) → ok (entry (tank k)) (record { mass = m; centre = c; fill = f; density = d; inertia = i }) ≡ ((fit m 0 600_000_000 && (fit c 0 60_000 && (fit f 0 1_000 && (fit d 0 2_000 && fit i 0 100_000)))) && (ltb 0 f || eqb m 0))
 unfolding ok within
-ok-tank m c f d i = simp and-right
+ok-tank k m c f d i = simp and-right
 
 pub ok-weather : (a z b f d : ℕ) → ok weather (record { windArea = a; z = z; cb = b; flooding = f; deckEdge = d }) ≡ (fit a 0 300_000 && (fit z 0 60_000 && (fit b 200 1_000 && (fit f 0 600 && fit d 1 600))))
 unfolding ok within
@@ -41,6 +41,6 @@ pub limits-item : (m c : ℕ) → ok (entry item) (record { mass = m; centre = c
 unfolding ok Limited
 limits-item m c o = let l = limited _ _ (both-true _ _ o .0) in omega arith
 
-pub limits-tank : (m c f d i : ℕ) → ok (entry tank) (record { mass = m; centre = c; fill = f; density = d; inertia = i }) ≡ true → (m ≤ 600_000_000) × (c ≤ 60_000) × (d ≤ 2_000) × (i ≤ 100_000)
+pub limits-tank : (k : TankKind) (m c f d i : ℕ) → ok (entry (tank k)) (record { mass = m; centre = c; fill = f; density = d; inertia = i }) ≡ true → (m ≤ 600_000_000) × (c ≤ 60_000) × (d ≤ 2_000) × (i ≤ 100_000)
 unfolding ok Limited
-limits-tank m c f d i o = let l = limited _ _ (both-true _ _ o .0) in omega arith
+limits-tank k m c f d i o = let l = limited _ _ (both-true _ _ o .0) in omega arith

@@ -4,7 +4,7 @@ use mathlib.Core.List.{List}
 use Prim.Native.Nat.{ℕ}
 use native.Mathlib.Omega.{arith}
 use lib.ListN.{length, getD}
-use Rattle.rules.specs.Blocks.{values, ship, row, weather, item, tank, entry}
+use Rattle.rules.specs.Blocks.{values, ship, row, weather, TankKind, item, tank, entry}
 use Rattle.rules.specs.Parts.{be2, be4, valuesAt}
 use Rattle.rules.proofs.layout.Parts.{num-one, num-two, num-four, values-at}
 
@@ -13,9 +13,9 @@ module _ (s : List ℕ) where
   unfolding valuesAt
   item-values h = rw (values-at (entry item .fields) 0 s, num-four s 0 (omega arith), num-two s 4 (omega arith))
 
-  pub tank-values : length s ≡ 14 → entry tank .named (values (entry tank .fields) s) ≡ record { mass = be4 s 0; centre = be2 s 4; fill = be2 s 6; density = be2 s 8; inertia = be4 s 10 }
+  pub tank-values : (k : TankKind) → length s ≡ 14 → entry (tank k) .named (values (entry (tank k) .fields) s) ≡ record { mass = be4 s 0; centre = be2 s 4; fill = be2 s 6; density = be2 s 8; inertia = be4 s 10 }
   unfolding valuesAt
-  tank-values h = rw (values-at (entry tank .fields) 0 s, num-four s 0 (omega arith), num-two s 4 (omega arith), num-two s 6 (omega arith), num-two s 8 (omega arith), num-four s 10 (omega arith))
+  tank-values k h = rw (values-at (entry (tank k) .fields) 0 s, num-four s 0 (omega arith), num-two s 4 (omega arith), num-two s 6 (omega arith), num-two s 8 (omega arith), num-four s 10 (omega arith))
 
   pub weather-values : length s ≡ 12 → weather .named (values (weather .fields) s) ≡ record { windArea = be4 s 0; z = be2 s 4; cb = be2 s 6; flooding = be2 s 8; deckEdge = be2 s 10 }
   unfolding valuesAt

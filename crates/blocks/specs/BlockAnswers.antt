@@ -12,6 +12,8 @@ use Rattle.book.specs.declared.Sums.{Sums}
 use Rattle.book.specs.declared.Refusal.{Refusal}
 use Rattle.blocks.specs.declared.Begun.{Begun}
 use Rattle.blocks.specs.declared.Begun.the-variants as begun
+use Rattle.blocks.specs.declared.entries.TankKind.{TankKind}
+use Rattle.blocks.specs.declared.entries.TankKind.the-variants as tankKind
 use Rattle.blocks.specs.declared.entries.Kind.{Kind}
 use Rattle.blocks.specs.declared.entries.Kind.the-variants as kind
 use Rattle.blocks.specs.declared.entries.Item.{Item}
@@ -34,9 +36,13 @@ begunOf (refused n l o) = begun.Short
 begunOf (got h) = begun.Block (h .tag) (length (h .body))
 
 -- ---- the entries
+abbrev pub tankKindOf : TankKind → rules.TankKind
+tankKindOf tankKind.Ordinary = rules.ordinary
+tankKindOf tankKind.Cargo = rules.cargo
+
 abbrev pub loadOf : Kind → rules.Load
 loadOf kind.Item = rules.item
-loadOf kind.Tank = rules.tank
+loadOf (kind.Tank k) = rules.tank (tankKindOf k)
 
 abbrev pub itemOf : Item → rules.Item
 itemOf i = record { mass = i .mass; centre = i .centre }

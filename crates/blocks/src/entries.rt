@@ -1,12 +1,12 @@
-// A block among the entries: C2 items, C3 tanks, and C4 groups as they begin.
+// A block among the entries: C2 items, C3 and C5 tanks, and C4 groups as they begin.
 ghost use mathlib.Core.Path.{_≡_};
 ghost use Prim.Native.Nat.{_*_, _≤_};
 ghost use lib.ListN.{length};
 ghost use lib.Dec.{ltb};
 ghost use Rattle.rules.specs.Blocks.{size, values, ok, item, tank, entry};
-ghost use Rattle.rules.specs.Loading.{freeSurfaceOf};
+ghost use Rattle.rules.specs.Loading.{surfaceCounts, freeSurfaceOf};
 ghost use Rattle.rules.specs.Walk.{fixed, nested, begun, blockAt};
-ghost use Rattle.blocks.specs.BlockAnswers.{loadOf, itemOf, tankOf, heldOf, leafOf, blockOf};
+ghost use Rattle.blocks.specs.BlockAnswers.{tankKindOf, loadOf, itemOf, tankOf, heldOf, leafOf, blockOf};
 use crate::refusal;
 use numbers::both;
 use numbers::either;
@@ -14,10 +14,16 @@ use numbers::fits;
 use numbers::u16_at;
 use numbers::u32_at;
 
+// The kinds of tank, C3 and C5.
+pub enum TankKind {
+    Ordinary,
+    Cargo,
+}
+
 // The kinds of entry.
 pub enum Kind {
     Item,
-    Tank,
+    Tank(TankKind),
 }
 
 // The values of an item, and of a tank.
@@ -65,7 +71,7 @@ fn item_fits(i: Item) -> bool
 
 fn read_tank(body: &[u8]) -> Tank
     requires { ⌜ length (now body) ≡ 14 ⌝ }
-    ensures { λ r. ⌜ tankOf r ≡ entry tank .named (values (entry tank .fields) (now (body .entry))) ⌝ }
+    ensures { λ r. ⌜ ((k : TankKind) → tankOf r ≡ entry (tank (tankKindOf k)) .named (values (entry (tank (tankKindOf k)) .fields) (now (body .entry)))) ⌝ }
 {
     Tank {
         mass: u32_at(body, 0),
@@ -78,7 +84,7 @@ fn read_tank(body: &[u8]) -> Tank
 
 // 'Fill 0 only with mass 0.'
 fn tank_fits(t: Tank) -> bool
-    ensures { λ r. ⌜ r ≡ ok (entry tank) (tankOf t) ⌝ }
+    ensures { λ r. ⌜ ((k : TankKind) → r ≡ ok (entry (tank (tankKindOf k))) (tankOf t)) ⌝ }
 {
     let contents = both(
         fits(t.fill, 0, 1_000),
@@ -98,12 +104,22 @@ fn moment(mass: u64, centre: u64) -> u64
     mass * centre
 }
 
-// 'Free surface moment of a tank = 1000 x density x inertia if 0 < fill < 980, else 0.'
-fn free_surface(t: Tank) -> u64
-    requires { ⌜ (t .density ≤ 2000) × (t .inertia ≤ 100000) ⌝ }
-    ensures { λ r. ⌜ r ≡ freeSurfaceOf tank (tankOf t) ⌝ }
+// '0 < fill < 980'; a cargo tank's free surface 'counts from fill 1 upward, 1,000 included'.
+fn surface_counts(k: TankKind, fill: u64) -> bool
+    ensures { λ r. ⌜ r ≡ surfaceCounts (tankKindOf k) fill ⌝ }
 {
-    if both(0 < t.fill, t.fill < 980) {
+    match k {
+        TankKind::Ordinary => both(0 < fill, fill < 980),
+        TankKind::Cargo => 0 < fill,
+    }
+}
+
+// 'Free surface moment of a tank = 1000 x density x inertia if' it counts, 'else 0'.
+fn free_surface(k: TankKind, t: Tank) -> u64
+    requires { ⌜ (t .density ≤ 2000) × (t .inertia ≤ 100000) ⌝ }
+    ensures { λ r. ⌜ r ≡ freeSurfaceOf (tank (tankKindOf k)) (tankOf t) ⌝ }
+{
+    if surface_counts(k, t.fill) {
         1000 * t.density * t.inertia
     } else {
         0
@@ -127,9 +143,10 @@ fn item_in(body: &[u8]) -> Held
     }
 }
 
-fn tank_in(body: &[u8]) -> Held
+// The body of a C3 and of a C5: the kind decides the free surface and nothing else.
+fn tank_in(k: TankKind, body: &[u8]) -> Held
     requires { ⌜ length (now body) ≡ 14 ⌝ }
-    ensures { λ r. ⌜ r ≡ heldOf tank (entry tank .named (values (entry tank .fields) (now (body .entry)))) ⌝ }
+    ensures { λ r. ⌜ r ≡ heldOf (tank (tankKindOf k)) (entry (tank (tankKindOf k)) .named (values (entry (tank (tankKindOf k)) .fields) (now (body .entry)))) ⌝ }
 {
     let t = read_tank(body);
     if tank_fits(t) {
@@ -137,7 +154,7 @@ fn tank_in(body: &[u8]) -> Held
             count: 1,
             mass: t.mass,
             moment: moment(t.mass, t.centre),
-            free: free_surface(t),
+            free: free_surface(k, t),
         })
     } else {
         Held::Outside
@@ -149,7 +166,7 @@ fn size(k: Kind) -> usize
 {
     match k {
         Kind::Item => 6,
-        Kind::Tank => 14,
+        Kind::Tank(_) => 14,
     }
 }
 
@@ -159,7 +176,7 @@ fn entry_in(k: Kind, body: &[u8]) -> Held
 {
     match k {
         Kind::Item => item_in(body),
-        Kind::Tank => tank_in(body),
+        Kind::Tank(t) => tank_in(t, body),
     }
 }
 
@@ -198,8 +215,9 @@ pub fn block_at(tag: u8, body: &[u8], line: usize, at: usize, depth: u64, left: 
 {
     match tag {
         0xC2 => leaf(Kind::Item, body, line, at, left),
-        0xC3 => leaf(Kind::Tank, body, line, at, left),
+        0xC3 => leaf(Kind::Tank(TankKind::Ordinary), body, line, at, left),
         0xC4 => group(body, line, at, depth),
+        0xC5 => leaf(Kind::Tank(TankKind::Cargo), body, line, at, left),
         _ => Block::Refused(refusal(4, line, at)),
     }
 }

@@ -1,20 +1,20 @@
 -- A reading within its limits gives a whole table and sums that the machine can hold; and what is worked out of them is what the rules say of the reading.
 use mathlib.Core.Path.{_≡_, refl, ap, _∙_}
-use mathlib.Core.Bool.{Bool, true, false, cond, _&&_}
+use mathlib.Core.Bool.{true}
 use mathlib.Core.List.{List, [], _∷_, map}
 use Prim.Native.Nat.{ℕ, _*_, _≤_}
 use native.Mathlib.Omega.{arith}
-use native.Mathlib.Nat.{mul-le-mul, mul-le-mul-left, mul-le-mul-right}
-use lib.Dec.{leb, ltb}
+use native.Mathlib.Nat.{mul-le-mul-right}
+use lib.Dec.{leb}
 use lib.ListN.{length, length-append, length-map, length-replicate}
 use lib.Seq.{take-at}
 use Rattle.rules.specs.Layout.{Entries, end, leaf, group, Good, leaves, Reading, Limits}
 use Rattle.rules.specs.Outcome.{got, test}
-use Rattle.rules.specs.Loading.{Entry, flat, total, mass, moment, freeSurface, nominallyFull, inTable, displacement, correctedKG, greatestKG, entriesOf, weighed}
+use Rattle.rules.specs.Loading.{Entry, flat, total, mass, moment, freeSurface, inTable, displacement, correctedKG, greatestKG, entriesOf, weighed}
 use Rattle.rules.specs.Curve.{loadedAt, loaded}
 use Rattle.rules.specs.Blocks as rules
-use Rattle.rules.proofs.layout.Fields.{ok-at}
 use Rattle.rules.proofs.walk.Outcome.{test-inv}
+use Rattle.rules.proofs.loading.EntryLimits.{Each, masses, moments, surfaces}
 use Rattle.rules.proofs.loading.Sums.{total-append}
 use Rattle.book.specs.Book.{rowOf, rowsOf, plainRow, tableOf, sumsOf}
 use Rattle.curve.specs.Weighing.{Whole, Sound, weighedOf, Weighs}
@@ -39,25 +39,6 @@ unfolding tableOf
 whole r l = record { few = l .few; many = l .many; long = table-long (r .rows) (l .many); rising = rw (table-rows (r .rows)) (l .rising) }
 
 -- ---- the sums
-abbrev Each : (Entry → ℕ) → ℕ → Type 0
-Each f n = (k : rules.Load) (v : rules.Values k) → rules.ok (rules.entry k) v ≡ true → f (record { kind = k; values = v }) ≤ n
-
-masses : Each mass 600_000_000
-masses rules.item v e = ok-at (rules.entry rules.item) v e 0 .1
-masses rules.tank v e = ok-at (rules.entry rules.tank) v e 0 .1
-
-moments : Each moment (600_000_000 * 60_000)
-moments rules.item v e = let l = ok-at (rules.entry rules.item) v e in mul-le-mul (l 0 .1) (l 1 .1)
-moments rules.tank v e = let l = ok-at (rules.entry rules.tank) v e in mul-le-mul (l 0 .1) (l 1 .1)
-
-surfaces : Each freeSurface (1000 * 2_000 * 100_000)
-surfaces rules.item v e = omega arith
-surfaces rules.tank v e = let l = ok-at (rules.entry rules.tank) v e in or-none (ltb 0 (v .fill) && ltb (v .fill) nominallyFull) (mul-le-mul (mul-le-mul-left 1000 (l 3 .1)) (l 4 .1))
-  where
-    or-none : {a n : ℕ} (b : Bool) → a ≤ n → cond b a 0 ≤ n
-    or-none true h = h
-    or-none false h = omega arith
-
 module _ (f : Entry → ℕ) (n : ℕ) (each : Each f n) where
   total-most : (F : Entries) → Good F → total f (flat F) ≤ leaves F * n
   unfolding Good flat total leaves

@@ -1,37 +1,26 @@
 -- The bounds of sums: of one entry within its limits, of sums put together, of all entries of a condition.
 use mathlib.Core.Path.{_≡_, sym}
-use mathlib.Core.Bool.{Bool, true, false, cond, _&&_}
+use mathlib.Core.Bool.{true}
 use mathlib.Core.List.{List, [], _∷_}
-use Prim.Native.Nat.{ℕ, suc, _+_, _-_, _*_, _≤_, _<_}
+use Prim.Native.Nat.{ℕ, suc, _+_, _-_, _≤_, _<_}
 use native.Mathlib.Omega.{arith}
-use native.Mathlib.Nat.{mul-le-mul}
 use lib.ListN.{getD}
-use lib.Dec.{ltb}
 use Rattle.rules.specs.Numbers.{Bytes}
-use Rattle.rules.specs.Blocks.{ok, Load, item, tank, Values, entry}
+use Rattle.rules.specs.Blocks.{ok, Load, Values, entry}
 use Rattle.rules.specs.Layout.{Entries, end, leaf, group, leaves, Good, mostEntries}
 use Rattle.rules.specs.Outcome.{got}
 use Rattle.rules.specs.Walk.{entries}
+use Rattle.rules.proofs.loading.EntryLimits.{masses, moments, surfaces}
 use Rattle.rules.proofs.loading.Sums.{leaves-flat}
 use Rattle.rules.proofs.walk.Entries.{entries-sound}
 use Rattle.book.specs.Book.{sumsOf}
 use Rattle.book.specs.declared.Sums.{Sums}
 use Rattle.blocks.specs.BlockAnswers.{sumsOfOne}
-use Rattle.blocks.proofs.Limits.{limits-item, limits-tank}
 use Rattle.frames.specs.Sums.{plus, Bounded}
 use Rattle.frames.proofs.Adding.{plus-end, plus-leaf, plus-group}
 
 pub one-bounded : (k : Load) (v : Values k) → ok (entry k) v ≡ true → Bounded (sumsOfOne k v)
-one-bounded item v o =
-    let l = limits-item (v .mass) (v .centre) o in
-    record { count = omega arith; mass = omega arith; moment = omega (arith, mul-le-mul (l .0) (l .1)); free = omega arith }
-one-bounded tank v o =
-    let l = limits-tank (v .mass) (v .centre) (v .fill) (v .density) (v .inertia) o in
-    record { count = omega arith; mass = omega arith; moment = omega (arith, mul-le-mul (l .0) (l .1)); free = go (ltb 0 (v .fill) && ltb (v .fill) 980) }
-  where
-    go : (b : Bool) → cond b (1000 * v .density * v .inertia) 0 ≤ 200_000_000_000 * 1
-    go true = let l = limits-tank (v .mass) (v .centre) (v .fill) (v .density) (v .inertia) o in omega (arith, mul-le-mul (l .2) (l .3))
-    go false = omega arith
+one-bounded k v o = record { count = omega arith; mass = omega (arith, masses k v o); moment = omega (arith, moments k v o); free = omega (arith, surfaces k v o) }
 
 pub plus-bounded : (t u : Sums) → Bounded t → Bounded u → t .count + u .count ≤ mostEntries → Bounded (plus t u)
 plus-bounded t u a b l = record {

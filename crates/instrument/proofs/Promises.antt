@@ -3,23 +3,25 @@
 use mathlib.Core.Path.{_≡_, refl, sym, _∙_}
 use mathlib.Core.Logic.{_↔_, _≢_}
 use mathlib.Core.List.{List, []}
-use Prim.Native.Nat.{ℕ, _+_, _≤_, _<_}
+use Prim.Native.Nat.{ℕ, _+_, _*_, _≤_, _<_}
 use lib.ListN.{length, take, drop}
 use denote.Ref.{RefT, now}
 use Rattle.rules.specs.Rounding.{ceil}
 use Rattle.rules.specs.Numbers.{digits}
 use Rattle.rules.specs.Text.{hex}
-use Rattle.rules.specs.Layout.{Reading, Allowed}
+use Rattle.rules.specs.Blocks.{Tank}
+use Rattle.rules.specs.Layout.{Entries, Reading, Allowed}
 use Rattle.rules.specs.Outcome.{refused, got}
 use Rattle.rules.specs.Walk.{read}
 use Rattle.rules.specs.Loading.{mass, moment, freeSurface, weighed}
-use Rattle.rules.specs.Leaves.{sumLeaves, SameSums}
+use Rattle.rules.specs.Leaves.{sumLeaves, SameSums, MadeCargo, loadedWith}
 use Rattle.rules.specs.Curve.{loaded}
 use Rattle.rules.specs.Report.{judgement, noJudgement, report, reportLength}
 use Rattle.rules.specs.Columns.{figureIn}
 use Rattle.rules.specs.Places.{Placed}
 use Rattle.rules.specs.Answer.{answered, reportOf, number, written}
-use Rattle.rules.proofs.bench.Bench.{P1}
+use Rattle.rules.proofs.bench.Bench.{P1, P1-output}
+use Rattle.rules.proofs.bench.CargoTank.{tanker, cargo-output, planner-holds}
 use Rattle.rules.proofs.bench.Regrouped.{regrouped, asOne, asGroup, reads-as, same-sums, two-texts}
 use Rattle.instrument.specs.Faults.{NoLineAt, OverrunAt}
 use Rattle.instrument.specs.Outside.{Outside, TooHigh, Neither}
@@ -126,3 +128,24 @@ reading-settles text text′ before before′ n n′ after after′ run run′ r
 -- Such texts need have nothing else in common: P1, whose load is one item, and a text whose load is a group of another item and a tank.
 pub two-such-texts : (a : Allowed P1) × (a′ : Allowed regrouped) × SameSums (a .0) (a′ .0) × (P1 ≢ regrouped)
 two-such-texts = (replies.allowed P1 asOne (reads-as .0), replies.allowed regrouped asGroup (reads-as .1), same-sums, two-texts)
+
+-- ---- cargo tanks
+-- Two texts, each with room, that differ in the tag of one tank and in nothing else: t, a C3 in the first, is a C5 in the second.
+module _ (text text′ before before′ : List ℕ) (n n′ : ℕ) (after after′ : List ℕ) (run : Judges text before n after) (run′ : Judges text′ before′ n′ after′) (room : reportLength ≤ length before) (room′ : reportLength ≤ length before′)
+  (a : Allowed text) (a′ : Allowed text′) (t : Tank) (G : Entries) (made : MadeCargo t (a .0 .condition .load) G) (same : a′ .0 ≡ loadedWith (a .0) G) where
+  -- Filled below 98 %, the tag makes no difference: the same number and the same report.
+  pub cargo-alike-below : t .fill < 980 → (n ≡ n′) × (take reportLength after ≡ take reportLength after′)
+  cargo-alike-below slack = reading-settles text text′ before before′ n n′ after after′ run run′ room room′ a a′ (replies.same-sums-below (a .0) (a′ .0) t G made same slack)
+
+  -- From 98 % on the C5 is not forgiven: where the second text is judged, its figure of W is of the first one's entries, and its figure of KG is of their moments and free surface moments with the full moment of t besides.
+  pub cargo-never-forgiven : 980 ≤ t .fill → n′ ≡ 0 → (figureIn 0 after′ ≡ hex (digits 8 (sumLeaves mass (a .0 .condition .load))))
+      × (figureIn 1 after′ ≡ hex (digits 8 (ceil (sumLeaves moment (a .0 .condition .load) + sumLeaves freeSurface (a .0 .condition .load) + 1000 * t .density * t .inertia) (sumLeaves mass (a .0 .condition .load)))))
+  cargo-never-forgiven full judged =
+      let q = contract text′ before′ n′ after′ .0 run′ in
+      replies.figures-made-cargo text′ before′ n′ after′ (q .0) (q .1) room′ judged a′ (a .0) t G made same full
+
+-- The planner's tank, filled to 98.5 %, in two texts that differ in the tag alone. As a C3 it is forgiven: KG is 4,000 mm (FA0) and all eight criteria pass. As a C5 it is not: KG is 4,200 mm (1068), and criteria 1 and 3 fail.
+pub planners-tank : (before before′ : List ℕ) (n n′ : ℕ) (after after′ : List ℕ) → Judges (tanker "C3") before n after → Judges (tanker "C5") before′ n′ after′ → reportLength ≤ length before → reportLength ≤ length before′
+    → (take reportLength after ≡ P1-output) × (take reportLength after′ ≡ cargo-output)
+planners-tank before before′ n n′ after after′ run run′ room room′ =
+    (every-text-answered (tanker "C3") before n after run room .1 ∙ planner-holds .0, every-text-answered (tanker "C5") before′ n′ after′ run′ room′ .1 ∙ planner-holds .1 .0)

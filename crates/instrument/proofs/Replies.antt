@@ -1,5 +1,5 @@
 -- What the promises rest on: the number and the report of a text step by step, by what its reading is and where its mass and KG lie.
-use mathlib.Core.Path.{_≡_, refl, ap, sym, _∙_}
+use mathlib.Core.Path.{_≡_, refl, ap, ap₂, sym, _∙_}
 use mathlib.Core.Bool.{Bool, true, false, _&&_}
 use mathlib.Core.List.{List, map}
 use mathlib.Core.Logic.{_↔_, _≢_, inl, inr, ⊎-elim}
@@ -14,13 +14,14 @@ use borrow.Author.Tests.{leb-true, leb-false}
 use Rattle.rules.specs.Rounding.{ceil}
 use Rattle.rules.specs.Numbers.{digits, twos}
 use Rattle.rules.specs.Text.{hex}
-use Rattle.rules.specs.Layout.{Reading, Allowed, mostCharacters}
+use Rattle.rules.specs.Blocks.{Tank}
+use Rattle.rules.specs.Layout.{Entries, Reading, Allowed, mostCharacters}
 use Rattle.rules.specs.Outcome.{Ans, refused, got, test}
 use Rattle.rules.specs.Walk.{read}
-use Rattle.rules.specs.Leaves.{sumLeaves, SameSums}
+use Rattle.rules.specs.Leaves.{sumLeaves, SameSums, MadeCargo, loadedWith}
 use Rattle.rules.specs.Columns.{figureIn}
 use Rattle.rules.specs.Places.{Placed}
-use Rattle.rules.specs.Loading.{mass, moment, freeSurface, weighed, inTable, displacement, correctedKG, firstMass, lastMass, greatestKG, entriesOf}
+use Rattle.rules.specs.Loading.{mass, moment, nominallyFull, freeSurface, weighed, inTable, displacement, correctedKG, firstMass, lastMass, greatestKG, entriesOf}
 use Rattle.rules.specs.Curve.{Loaded, loaded}
 use Rattle.rules.specs.Report.{verdictNumber, Judgement, judgement, noJudgement, report, reportLength}
 use Rattle.rules.specs.Answer.{judged, answered, numberOf, reportOf, number, written}
@@ -34,6 +35,7 @@ use Rattle.rules.proofs.answer.Placed.{place-within}
 use Rattle.rules.proofs.answer.Length.{report-length}
 use Rattle.rules.proofs.answer.Columns.{column-front, figure-column}
 use Rattle.rules.proofs.loading.Sums.{displacement-leaves, correctedKG-leaves, judged-by-sums}
+use Rattle.rules.proofs.loading.Cargo.{sums-below, sums-full}
 use Rattle.instrument.specs.Faults.{NoLineAt, OverrunAt}
 use Rattle.instrument.specs.Outside.{Outside, Inside, TooHigh, Neither}
 
@@ -175,6 +177,19 @@ module _ (t before : List ℕ) (n : ℕ) (after : List ℕ) (N : n ≡ number t 
         let e = read-of t a in
         weighed-cases r (λ _ w. absurd (omega (arith, weighing-sent r e 7 w .0))) (λ _ w. absurd (omega (arith, weighing-sent r e 8 w .0))) (λ _ w. (W-figure a w, KG-figure a w))
 
+    -- The same of a reading with one of its tanks, filled to 98 % or more, made a cargo tank.
+    pub figures-made-cargo : n ≡ 0 → (a : Allowed t) (r : Reading) (v : Tank) (G : Entries) → MadeCargo v (r .condition .load) G → a .0 ≡ loadedWith r G → nominallyFull ≤ v .fill
+        → (figureIn 0 after ≡ hex (digits 8 (sumLeaves mass (r .condition .load))))
+        × (figureIn 1 after ≡ hex (digits 8 (ceil (sumLeaves moment (r .condition .load) + sumLeaves freeSurface (r .condition .load) + 1000 * v .density * v .inertia) (sumLeaves mass (r .condition .load)))))
+    figures-made-cargo z a r v G made same full =
+        let f = figures-of-leaves z a in
+        let s = sums-full made full in
+        let load : a .0 .condition .load ≡ G = ap (λ (x : Reading). x .condition .load) same in
+        (
+          f .0 ∙ ap (λ (F : Entries). hex (digits 8 (sumLeaves mass F))) load ∙ ap (λ (m : ℕ). hex (digits 8 m)) (s .0),
+          f .1 ∙ ap (λ (F : Entries). hex (digits 8 (ceil (sumLeaves moment F + sumLeaves freeSurface F) (sumLeaves mass F)))) load ∙ ap₂ (λ (m w : ℕ). hex (digits 8 (ceil m w))) (s .1) (s .0),
+        )
+
     -- ---- which number
     refused-by : (m l o : ℕ) → read t ≡ refused m l o → (1 ≤ n) × (n ≤ 6)
     refused-by m l o e = omega (arith, number-of-refusal t e, refusal-sent m l o e .0)
@@ -262,3 +277,7 @@ by-sums t t′ before before′ n n′ after after′ N W N′ W′ room room′
     let u = of-reading t before n after N W room (a .0) (read-of t a) in
     let v = of-reading t′ before′ n′ after′ N′ W′ room′ (a′ .0) (read-of t′ a′) in
     (u .0 ∙ ap numberOf e ∙ sym (v .0), u .1 ∙ ap reportOf e ∙ sym (v .1))
+
+-- A reading with one of its tanks, filled below 98 %, made a cargo tank has the same sums.
+pub same-sums-below : (r s : Reading) (v : Tank) (G : Entries) → MadeCargo v (r .condition .load) G → s ≡ loadedWith r G → v .fill < nominallyFull → SameSums r s
+same-sums-below r s v G made same h = let e = sums-below made h in rw same (record { ship = refl; rows = refl; weather = refl; masses = e .0; moments = e .1 })

@@ -22,7 +22,7 @@ pub fn add(cases: &mut Cases) {
     cases.add("all limits high", |dice| all_at(dice, |field| field.most));
 }
 
-fn values(field: &Field) -> Vec<i128> {
+pub fn values(field: &Field) -> Vec<i128> {
     let most_held = (1 << (8 * field.width)) - 1;
     let (least, most) = (field.least, field.most);
     let mut values = vec![least - 1, least, most, most + 1, most_held];

@@ -10,6 +10,8 @@ pub struct Case {
     pub name: String,
     pub make: Make,
     pub long: bool,
+    /// How many texts before this one stands the text whose dice it throws.
+    pub back: u64,
 }
 
 /// The list that each part of the corpus adds its cases to.
@@ -24,6 +26,7 @@ impl Cases {
             name: name.into(),
             make: Box::new(make),
             long: false,
+            back: 0,
         });
     }
 
@@ -32,10 +35,26 @@ impl Cases {
         name: impl Into<String>,
         make: impl Fn(&mut Dice) -> Vec<u8> + 'static,
     ) {
-        self.list.push(Case {
-            name: name.into(),
-            make: Box::new(make),
-            long: true,
-        });
+        self.add(name, make);
+        self.last(|case| case.long = true);
+    }
+
+    /// Cases that throw the same dice, and so have the same ship.
+    pub fn add_twins<K: Copy + 'static>(
+        &mut self,
+        kinds: &[(&str, K)],
+        name: &str,
+        make: impl Fn(&mut Dice, K) -> Vec<u8> + Copy + 'static,
+    ) {
+        for (back, &(word, kind)) in (0..).zip(kinds) {
+            self.add(format!("{name} as {word}"), move |dice| make(dice, kind));
+            self.last(|case| case.back = back);
+        }
+    }
+
+    fn last(&mut self, change: impl FnOnce(&mut Case)) {
+        if let Some(case) = self.list.last_mut() {
+            change(case);
+        }
     }
 }

@@ -4,7 +4,7 @@
 use super::dice::Dice;
 use super::draft::{item, tank, Draft};
 use super::faults::apply_any;
-use super::load::{grouped, spread};
+use super::load::{grouped, mixed, spread};
 use super::vessel;
 use super::winds::blow;
 use crate::layout::fields;
@@ -35,6 +35,7 @@ fn sound(dice: &mut Dice, small: bool) -> Draft {
     };
     let vessel = vessel::any(dice, rows);
     let entries = spread(dice, &vessel, entries);
+    let entries = mixed(dice, entries);
     vessel.draft(grouped(dice, entries))
 }
 
@@ -48,6 +49,7 @@ fn windy(dice: &mut Dice) -> Vec<u8> {
     let gm = dice.between(400, 2_500);
     vessel.set_gm(gm);
     let entries = spread(dice, &vessel, 3);
+    let entries = mixed(dice, entries);
     vessel.draft(grouped(dice, entries)).text()
 }
 
@@ -58,7 +60,7 @@ fn high(dice: &mut Dice) -> Vec<u8> {
     let (one, other) = (60_000 - dice.between(0, 4), 60_000 - dice.between(0, 4));
     let inertia = dice.between(0, vessel.mass / 250_000);
     let surface = tank(part, other, dice.between(900, 1_000), 1_025, inertia);
-    let entries = vec![item(vessel.mass - part, one), surface];
+    let entries = mixed(dice, vec![item(vessel.mass - part, one), surface]);
     vessel.draft(grouped(dice, entries)).text()
 }
 

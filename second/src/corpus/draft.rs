@@ -3,7 +3,7 @@
 //! behind it that it does not count.
 
 use crate::book::{Row, Ship, Weather};
-use crate::layout::{self, A1, A2, A3, C1, C2, C3, C4};
+use crate::layout::{self, A1, A2, A3, C1, C2, C3, C4, C5};
 
 #[derive(Clone, Debug)]
 pub struct Block {
@@ -98,6 +98,15 @@ pub fn item(mass: i128, centre: i128) -> Block {
 
 pub fn tank(mass: i128, centre: i128, fill: i128, density: i128, inertia: i128) -> Block {
     Block::new(C3, vec![mass, centre, fill, density, inertia], Vec::new())
+}
+
+/// A tank as a cargo tank of the same values.
+pub fn cargo(tank: Block) -> Block {
+    Block {
+        form: C5,
+        tag: C5,
+        ..tank
+    }
 }
 
 pub fn group(inner: Vec<Block>) -> Block {

@@ -57,7 +57,7 @@ const OF_CONDITION: [Fault; 11] = [
     Empty,
     First,
 ];
-const OF_ENTRY: [Fault; 9] = [
+pub const OF_ENTRY: [Fault; 9] = [
     PastParent,
     PastAll,
     OneLong,
@@ -91,11 +91,13 @@ fn faults_of(form: u8) -> &'static [Fault] {
 }
 
 #[derive(Clone, Copy, Debug, PartialEq)]
-enum Second {
+pub enum Second {
     None,
     Before,
     Behind,
 }
+
+pub const SECONDS: [Second; 3] = [Second::None, Second::Before, Second::Behind];
 
 pub fn add(cases: &mut Cases) {
     for frame in 0..4 {
@@ -126,7 +128,7 @@ pub fn add(cases: &mut Cases) {
 }
 
 /// Two faults of one block, of which the order 2, 4, 3, 5, 6 decides.
-const PAIRS: [(Fault, Fault); 8] = [
+pub const PAIRS: [(Fault, Fault); 8] = [
     (PastAll, Tag),
     (PastParent, Value),
     (PastAll, Empty),
@@ -143,16 +145,26 @@ fn add_pairs(cases: &mut Cases, path: Vec<usize>) {
         cases.add(
             format!("faults {one:?} and {other:?} at {path:?}"),
             move |dice| {
-                let mut draft = ladder(dice, 1);
-                apply(dice, &mut draft, &path, other);
-                apply(dice, &mut draft, &path, one);
-                draft.text()
+                let draft = ladder(dice, 1);
+                both(dice, draft, &path, (one, other))
             },
         );
     }
 }
 
-fn entry_path(depth: usize, entry: usize) -> Vec<usize> {
+/// A draft with two faults at a path.
+pub fn both(
+    dice: &mut Dice,
+    mut draft: Draft,
+    path: &[usize],
+    (one, other): (Fault, Fault),
+) -> Vec<u8> {
+    apply(dice, &mut draft, path, other);
+    apply(dice, &mut draft, path, one);
+    draft.text()
+}
+
+pub fn entry_path(depth: usize, entry: usize) -> Vec<usize> {
     if depth == 0 {
         return vec![3, 1 + entry];
     }
@@ -165,19 +177,21 @@ fn entry_path(depth: usize, entry: usize) -> Vec<usize> {
 /// With a second fault where the nesting is least, midst and most.
 fn add_at(cases: &mut Cases, depth: usize, path: Vec<usize>) {
     let form = ladder(&mut Dice::new(0, 0), depth).at(&path).form();
-    let kinds = [Second::None, Second::Before, Second::Behind];
     let alone = path.len() > 2 && depth % 2 == 1;
     for &fault in faults_of(form) {
-        for &second in if alone { &kinds[..1] } else { &kinds[..] } {
+        for &second in if alone { &SECONDS[..1] } else { &SECONDS[..] } {
             let name = format!("fault {fault:?} at {path:?} of depth {depth}, second {second:?}");
             let path = path.clone();
-            cases.add(name, move |dice| faulty(dice, depth, &path, fault, second));
+            cases.add(name, move |dice| {
+                let draft = ladder(dice, depth);
+                faulty(dice, draft, &path, fault, second)
+            });
         }
     }
 }
 
 /// Two rows, and an item and a tank so many groups deep, with an item behind.
-fn ladder(dice: &mut Dice, depth: usize) -> Draft {
+pub fn ladder(dice: &mut Dice, depth: usize) -> Draft {
     let mut vessel = vessel::judged(dice);
     vessel.rows.truncate(2);
     vessel.mass = vessel.rows[0].displacement;
@@ -191,8 +205,14 @@ fn ladder(dice: &mut Dice, depth: usize) -> Draft {
     vessel.draft(entries)
 }
 
-fn faulty(dice: &mut Dice, depth: usize, path: &[usize], fault: Fault, second: Second) -> Vec<u8> {
-    let mut draft = ladder(dice, depth);
+/// A draft with a fault at a path and a second one somewhere else.
+pub fn faulty(
+    dice: &mut Dice,
+    mut draft: Draft,
+    path: &[usize],
+    fault: Fault,
+    second: Second,
+) -> Vec<u8> {
     let paths = draft.paths();
     let others: Vec<Vec<usize>> = match second {
         Second::None => Vec::new(),
@@ -283,7 +303,7 @@ pub fn apply(dice: &mut Dice, draft: &mut Draft, path: &[usize], fault: Fault) {
 
 /// A tag that is not allowed in the place of the right one.
 fn wrong_tag(dice: &mut Dice, right: u8, frame: bool) -> u8 {
-    let outside = [0x00, 0xFF, 0xA0, 0xA4, 0xC0, 0xC5, 0xD1, 0x2C];
+    let outside = [0x00, 0xFF, 0xA0, 0xA4, 0xC0, 0x5C, 0xD1, 0x2C];
     let others: &[u8] = match (right, frame) {
         (A1, _) => &[0xA2, 0xA3, 0xC1],
         (A2, _) => &[0xA1, 0xC2, 0xC4],

@@ -2,8 +2,9 @@
 //! into groups within groups.
 
 use super::dice::Dice;
-use super::draft::{group, item, tank, Block};
+use super::draft::{cargo, group, item, tank, Block};
 use super::vessel::Vessel;
+use crate::layout::C3;
 use crate::parse::MOST_DEPTH;
 
 /// So many entries around the vessel's KG, with tanks among them.
@@ -44,6 +45,20 @@ fn some_tank(dice: &mut Dice, vessel: &Vessel, mass: i128, centre: i128) -> Bloc
     let density = dice.pick(&[1_025, 1_000, 850, 960, 0, 2_000]);
     let widest = (vessel.mass / 40_000).clamp(1, 100_000);
     tank(mass, centre, fill, density, dice.between(0, widest))
+}
+
+/// The same entries with some of the tanks filled to 98.5 %, and a third of
+/// them as cargo tanks.
+pub fn mixed(dice: &mut Dice, mut entries: Vec<Block>) -> Vec<Block> {
+    for entry in entries.iter_mut().filter(|entry| entry.form() == C3) {
+        if dice.chance(15) {
+            entry.values[2] = 985;
+        }
+        if dice.chance(33) {
+            *entry = cargo(entry.clone());
+        }
+    }
+    entries
 }
 
 /// The same entries with some neighbours put together in groups.

@@ -2,6 +2,7 @@
 //! A text depends on the seed and its own number only.
 
 mod bounds;
+mod cargo;
 mod cases;
 mod chance;
 mod characters;
@@ -44,6 +45,7 @@ impl Corpus {
         faults::add(&mut cases);
         characters::add(&mut cases);
         sizes::add(&mut cases);
+        cargo::add(&mut cases);
         cases.list.retain(|case| !(small && case.long));
         Corpus {
             seed,
@@ -58,13 +60,12 @@ impl Corpus {
     }
 
     pub fn text(&self, number: u64) -> Vec<u8> {
-        let mut dice = Dice::new(self.seed, number);
         match usize::try_from(number)
             .ok()
             .and_then(|number| self.cases.get(number))
         {
-            Some(case) => (case.make)(&mut dice),
-            None => chance::text(&mut dice, self.small),
+            Some(case) => (case.make)(&mut Dice::new(self.seed, number - case.back)),
+            None => chance::text(&mut Dice::new(self.seed, number), self.small),
         }
     }
 }

@@ -3,12 +3,13 @@
 
 use super::cases::Cases;
 use super::dice::Dice;
-use super::draft::{self, group, item, line, Block};
+use super::draft::{self, cargo, group, item, line, tank, Block};
 use super::vessel;
 
 /// S ship, R row, C condition; lower case s, r, c the same with its length
-/// one too long, and x, y, z with one byte left behind it; I, G, W, D, O
-/// frames with tags of other places; 1 and 2 lines of so many bytes.
+/// one too long, and x, y, z with one byte left behind it; I, K, G, W, D, O
+/// frames with tags of other places, K a cargo tank's and k the same with its
+/// length one too long; 1 and 2 lines of so many bytes.
 const WORDS: [&str; 62] = [
     "", "S", "SR", "SRR", "SRRR", "R", "C", "RR", "RRC", "RSRC", "CSRR", "SC", "SRC", "SRRC", "SS",
     "SSRRC", "SRSRC", "SRRSC", "SCRR", "SRCR", "SRRCS", "SRRCR", "SRRCC", "SRRCI", "SRRCD",
@@ -23,7 +24,7 @@ pub fn add(cases: &mut Cases) {
     }
 }
 
-fn spelled(dice: &mut Dice, word: &str) -> Vec<u8> {
+pub fn spelled(dice: &mut Dice, word: &str) -> Vec<u8> {
     let mut vessel = vessel::judged(dice);
     let mut text = Vec::new();
     for letter in word.chars() {
@@ -52,10 +53,11 @@ fn frame(dice: &mut Dice, vessel: &mut vessel::Vessel, letter: char) -> Block {
             .inner
             .remove(0),
         'G' => group(vec![item(5, 5)]),
+        'K' | 'k' => cargo(tank(vessel.mass, vessel.kg, 985, 1_025, 9)),
         _ => item(vessel.mass, vessel.kg),
     };
     match letter {
-        's' | 'r' | 'c' => block.declared = Some(block.body().len() + 1),
+        's' | 'r' | 'c' | 'k' => block.declared = Some(block.body().len() + 1),
         'x' | 'y' | 'z' => block.spill = vec![0],
         'D' => block.tag = 0xD1,
         'O' => block.tag = 0,

@@ -3,7 +3,7 @@
 
 use super::cases::Cases;
 use super::dice::Dice;
-use super::draft::{group, item, tank};
+use super::draft::{group, item, tank, Draft};
 use super::vessel::{self, level, Vessel};
 
 pub fn add(cases: &mut Cases) {
@@ -100,7 +100,7 @@ fn add_highest(cases: &mut Cases) {
         for whole in [1, 2] {
             cases.add(
                 format!("KG 60,000 by free surface {beside:+}, {whole} m"),
-                move |dice| highest(dice, beside, whole),
+                move |dice| highest(dice, beside, whole).text(),
             );
         }
     }
@@ -127,7 +127,7 @@ fn add_highest(cases: &mut Cases) {
 
 /// The free surface raises KG by a whole number of millimetres, or by one
 /// density unit less or more than that.
-fn highest(dice: &mut Dice, beside: i128, whole: i128) -> Vec<u8> {
+pub fn highest(dice: &mut Dice, beside: i128, whole: i128) -> Draft {
     let mut vessel: Vessel = vessel::judged(dice);
     let density = dice.between(700, 1_100);
     let inertia = whole * dice.between(2, 40);
@@ -137,7 +137,5 @@ fn highest(dice: &mut Dice, beside: i128, whole: i128) -> Vec<u8> {
     vessel.rows[0].displacement = mass - lighter;
     vessel.rows[1].displacement = mass;
     let surface = tank(0, 0, dice.between(1, 979), density + beside, inertia);
-    vessel
-        .draft(vec![group(vec![surface]), item(mass, 60_000 - whole)])
-        .text()
+    vessel.draft(vec![group(vec![surface]), item(mass, 60_000 - whole)])
 }

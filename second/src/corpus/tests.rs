@@ -13,10 +13,11 @@ use crate::report::report;
 use crate::stream::write_text;
 use crate::text::MOST_CHARACTERS;
 
-const SYSTEMATIC: usize = 1_401;
-const SYSTEMATIC_SMALL: usize = 1_391;
+const SYSTEMATIC: usize = 1_649;
+const SYSTEMATIC_SMALL: usize = 1_637;
+const TWINS: usize = 39;
 const STORED_SEED: u64 = 20_261_115;
-const STORED_COUNT: u64 = 1_440;
+const STORED_COUNT: u64 = 1_686;
 
 fn named(corpus: &Corpus, name: &str) -> Vec<u8> {
     let number = corpus.cases.iter().position(|case| case.name == name);
@@ -165,6 +166,139 @@ fn sizes_are_what_they_are_named() {
 }
 
 #[test]
+fn fills_count_as_their_kind_of_tank_says() {
+    for corpus in seeds() {
+        for depth in [0, 4] {
+            let kg = |fill: i128, kind: &str| {
+                let name = format!("fill {fill} mass 5000 depth {depth} as {kind}");
+                judged(&corpus, &name).figures[1]
+            };
+            for fill in [1, 979] {
+                assert_eq!(kg(fill, "C3"), kg(fill, "C5"));
+                assert!(kg(fill, "C3 and C5") > kg(fill, "C5"));
+            }
+            for fill in [980, 985, 1_000] {
+                assert!(kg(fill, "C3") < kg(fill, "C5"));
+                assert_eq!(kg(fill, "C3 and C5"), kg(fill, "C5"));
+            }
+            for kind in ["C3", "C5", "C3 and C5"] {
+                let number = |what: &str| {
+                    let name = format!("fill {what} depth {depth} as {kind}");
+                    refused(&corpus, &name).map(|refusal| refusal.number)
+                };
+                let seen = ["0 mass 0", "0 mass 1", "1001 mass 5000"].map(number);
+                assert_eq!(seen, [None, Some(6), Some(6)]);
+            }
+        }
+    }
+}
+
+/// A text with a tank and its twin with a cargo tank differ in one digit.
+#[test]
+fn twins_have_the_same_ship() {
+    for corpus in seeds() {
+        let twins: Vec<u64> = (0..)
+            .zip(corpus.names())
+            .filter_map(|(number, name)| name.ends_with(" as C5").then_some(number))
+            .collect();
+        assert_eq!(twins.len(), TWINS);
+        for number in twins {
+            let (tank, cargo) = (corpus.text(number - 1), corpus.text(number));
+            assert_eq!(tank.len(), cargo.len());
+            let changed = tank.iter().zip(&cargo).filter(|(one, other)| one != other);
+            assert!(changed.eq([(&b'3', &b'5')]), "text {number}");
+        }
+    }
+}
+
+#[test]
+fn the_planners_tank_decides() {
+    for corpus in seeds() {
+        let both = |name: &str| {
+            ["C3", "C5"].map(|kind| judged(&corpus, &format!("planner's tank{name} as {kind}")))
+        };
+        let [tank, cargo] = both("");
+        assert!((200..=206).contains(&(cargo.figures[1] - tank.figures[1])));
+        for (gm, verdict) in [(149, FAIL), (150, PASS)] {
+            let [tank, cargo] = both(&format!(", GM {gm} with its surface"));
+            assert_eq!((cargo.figures[2], cargo.verdicts[5]), (gm, verdict));
+            assert_eq!(tank.verdicts[5], PASS);
+        }
+        for criterion in 1..=8 {
+            let judged = both(&format!(", criterion {criterion}"));
+            let verdicts = judged.map(|judged| judged.verdicts[criterion - 1]);
+            assert_eq!(verdicts, [PASS, FAIL], "criterion {criterion}");
+        }
+        for fill in [1, 980, 985, 1_000] {
+            let name = |beside: i128| format!("KG 60,000 by fill {fill} {beside:+} as C5");
+            assert_eq!(judged(&corpus, &name(0)).figures[1], 60_000);
+            assert_eq!(refused(&corpus, &name(1)), Some(Refusal::of_loading(8)));
+        }
+        let greatest = [59_666, 59_667].map(|at| format!("greatest cargo tank at {at}"));
+        assert_eq!(judged(&corpus, &greatest[0]).figures[1], 60_000);
+        assert_eq!(refused(&corpus, &greatest[1]), Some(Refusal::of_loading(8)));
+    }
+}
+
+#[test]
+fn cargo_tanks_count_and_stand_as_tanks() {
+    for corpus in seeds() {
+        let number = |name: &str| refused(&corpus, name).map(|refusal| refusal.number);
+        for others in ["C2", "C3", "C5"] {
+            let counted = |count: usize| number(&format!("C5 as entry {count} behind {others}"));
+            assert_eq!([200, 201].map(counted), [None, Some(5)]);
+        }
+        for last in ["C2", "C3"] {
+            assert_eq!(number(&format!("{last} as entry 201 behind C5")), Some(5));
+        }
+        let faults = ["None", "Some(BodyShort)", "Some(PastAll)", "Some(Tag)"];
+        let crowded = faults.map(|fault| number(&format!("C5 as entry 201, fill 0, {fault}")));
+        assert_eq!(crowded, [5, 3, 2, 4].map(Some));
+        for depth in 0..=5 {
+            let alone = number(&format!("cargo tank alone at depth {depth}"));
+            assert_eq!(alone, if depth == 5 { Some(5) } else { None });
+        }
+        for place in ["before the C1", "for the C1", "for all"] {
+            let refusal = refused(&corpus, &format!("cargo tank {place}, None"));
+            assert_eq!(refusal, Some(Refusal::at(4, 4, 3)));
+        }
+        for (word, line) in [
+            ("K", 1),
+            ("KRRC", 1),
+            ("SKRC", 2),
+            ("SRRK", 4),
+            ("SRRCK", 5),
+        ] {
+            let refusal = refused(&corpus, &format!("frames {word}"));
+            assert_eq!(refusal, Some(Refusal::at(4, line, 0)));
+        }
+    }
+}
+
+#[test]
+fn cargo_tanks_of_other_lengths() {
+    for corpus in seeds() {
+        for (depth, offset) in [(0, 27), (4, 39)] {
+            for last in [true, false] {
+                let place = |what: &str| {
+                    let name = format!("cargo tank of {what} at depth {depth}, last {last}");
+                    refused(&corpus, &name).map(|refusal| (refusal.number, refusal.offset))
+                };
+                for what in ["0 bytes", "6 bytes", "13 bytes", "15 bytes", "length 13"] {
+                    assert_eq!(place(what), Some((3, offset)));
+                }
+                let past = if last { 2 } else { 3 };
+                assert_eq!(place("length 15"), Some((past, offset)));
+            }
+            for kept in [1, 2] {
+                let name = format!("cargo fault Cut({kept}) at depth {depth}, second None");
+                assert_eq!(refused(&corpus, &name), Some(Refusal::at(2, 4, offset)));
+            }
+        }
+    }
+}
+
+#[test]
 fn every_verdict_and_refusal_occurs() {
     let corpus = Corpus::new(1, false);
     let mut verdicts = BTreeSet::new();
@@ -198,7 +332,7 @@ fn the_same_seed_gives_the_same_texts() {
     );
     let texts = |corpus: &Corpus| -> Vec<Vec<u8>> {
         (0..100)
-            .chain(1_400..1_500)
+            .chain(1_400..1_700)
             .map(|number| corpus.text(number))
             .collect()
     };

@@ -1,9 +1,9 @@
 //! Ships for the search, drawn by chance between two rows, so that every
 //! value has a fraction to be rounded.
 
-use crate::book::{Condition, Document, Entry, Row, Ship, Weather, Weight};
+use crate::book::{Condition, Document, Entry, Liquid, Row, Ship, Weather, Weight};
 use crate::corpus::dice::Dice;
-use crate::corpus::draft::{self, Draft};
+use crate::corpus::draft::{self, Block, Draft};
 use crate::curve::SINES;
 use crate::line::up;
 use crate::loading::laden;
@@ -166,17 +166,29 @@ pub fn lift(document: &mut Document, station: usize, more: i128) -> bool {
     possible
 }
 
-/// The text of a document of items.
+/// The text of a document.
 pub fn text(document: &Document) -> Vec<u8> {
     let mut frames = vec![draft::ship(&document.ship)];
     frames.extend(document.rows.iter().map(draft::row));
-    let items = document.condition.entries.iter().map(|entry| match entry {
-        Entry::Item(weight) | Entry::Tank(weight, _) => draft::item(weight.mass, weight.centre),
-        Entry::Group(_) => draft::group(Vec::new()),
-    });
-    frames.push(draft::condition(
-        &document.condition.weather,
-        items.collect(),
-    ));
+    let entries = document.condition.entries.iter().map(block).collect();
+    frames.push(draft::condition(&document.condition.weather, entries));
     Draft { frames }.text()
+}
+
+fn block(entry: &Entry) -> Block {
+    match entry {
+        Entry::Item(weight) => draft::item(weight.mass, weight.centre),
+        Entry::Tank(weight, liquid) => tank(weight, liquid),
+        Entry::Cargo(weight, liquid) => draft::cargo(tank(weight, liquid)),
+        Entry::Group(inner) => draft::group(inner.iter().map(block).collect()),
+    }
+}
+
+fn tank(weight: &Weight, liquid: &Liquid) -> Block {
+    let Liquid {
+        fill,
+        density,
+        inertia,
+    } = *liquid;
+    draft::tank(weight.mass, weight.centre, fill, density, inertia)
 }

@@ -4,6 +4,7 @@
 
 use std::path::PathBuf;
 
+use super::draw::text as written;
 use super::fraction::Fraction;
 use super::hull::Hull;
 use super::levers::Levers;
@@ -58,11 +59,15 @@ fn assert_as_used(document: &Document, exact: &Verdicts) {
 fn with_no_value_kept_the_verdicts_are_document_01s() {
     let corpus = Corpus::new(7, true);
     let mut judged = 0;
-    for number in 0..2_800 {
+    for number in 0..3_100 {
         let text = corpus.text(number);
         let Ok(document) = lines(&text).and_then(|lines| document(&lines)) else {
             continue;
         };
+        assert_eq!(
+            read(&String::from_utf8_lossy(&written(&document))),
+            document
+        );
         if judge_document(&document).is_ok() {
             let verdicts = Verdicts::of(&document, Kept::NONE).expect("on its rows");
             assert_as_used(&document, &verdicts);

@@ -10,7 +10,7 @@ use lib.ListN.{length, length-append}
 use borrow.Author.Tests.{lt-ltb, le-ltb}
 use Rattle.rules.specs.Text.{text}
 use Rattle.rules.specs.Blocks.{block, ok, Row, Tank, TankKind, ordinary, cargo, tankTag, item, tank, entry}
-use Rattle.rules.specs.Layout.{Entries, leaf, group, spell, Condition, spellCondition, rowFrames, frames, spellText, Reading, leaves, depth, some, Good, ConditionLimits, Limits}
+use Rattle.rules.specs.Layout.{Entries, spell, Condition, spellCondition, rowFrames, frames, spellText, Reading, leaves, depth, some, Good, Limits}
 use Rattle.rules.specs.Outcome.{Ans, refused, got, _>>=_}
 use Rattle.rules.specs.Walk.{fixed, tagOf, Block, one, nest, begun, blockAt}
 use Rattle.rules.specs.Loading.{Entry, mass, moment, nominallyFull, surfaceMoment, freeSurfaceOf, freeSurface}
@@ -91,6 +91,14 @@ module _ {t : Tank} where
   pub sums-made-cargo : {F G : Entries} → MadeCargo t F G → (sumLeaves mass F ≡ sumLeaves mass G) × (sumLeaves moment F ≡ sumLeaves moment G)
       × (sumLeaves freeSurface F + freeSurfaceOf (tank cargo) t ≡ sumLeaves freeSurface G + freeSurfaceOf (tank ordinary) t)
   sums-made-cargo m = (omega (arith, sums-differ mass m), omega (arith, sums-differ moment m), sums-differ freeSurface m)
+
+  -- Below 980 the sums stay; from there on the full moment comes in.
+  pub sums-below : {F G : Entries} → MadeCargo t F G → t .fill < nominallyFull → (sumLeaves mass F ≡ sumLeaves mass G) × (sumLeaves moment F + sumLeaves freeSurface F ≡ sumLeaves moment G + sumLeaves freeSurface G)
+  sums-below m h = let s = sums-made-cargo m in let e = alike-below t h in (s .0, omega arith)
+
+  pub sums-full : {F G : Entries} → MadeCargo t F G → nominallyFull ≤ t .fill
+      → (sumLeaves mass G ≡ sumLeaves mass F) × (sumLeaves moment G + sumLeaves freeSurface G ≡ sumLeaves moment F + sumLeaves freeSurface F + 1000 * t .density * t .inertia)
+  sums-full m h = let s = sums-made-cargo m in let e = forgiven t h in let c = cargo-moment t (omega arith) in (sym (s .0), omega arith)
 
   alike : {F G : Entries} → MadeCargo t F G → Alike F G
   unfolding leaves depth some

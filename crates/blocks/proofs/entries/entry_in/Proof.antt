@@ -11,19 +11,19 @@ item-in-requires : tie.Need-item-in-requires
 unfolding size
 item-in-requires c κs = rw (c .enum-told .given .1) at (c .before .before .before .pre)
 
-enum-told-2 : tie.Need-enum-told-2
-enum-told-2 c = search needs
+enum-known-k : tie.Need-enum-known-k
+enum-known-k c = search needs
 
 tank-in-requires : tie.Need-tank-in-requires
 unfolding size
-tank-in-requires c κs = rw (c .enum-told2 .given .1) at (c .before .before .before .pre)
+tank-in-requires c κs = rw (c .before .k .given .1) at (c .before .before .before .before .pre)
 
 returns : tie.Need-returns
 returns c = rw (c .before .enum-told .given .1) (c .item-in .ensures)
 
 returns-2 : tie.Need-returns-2
-returns-2 c = rw (c .before .enum-told2 .given .1) (c .tank-in .ensures)
+returns-2 c = rw (c .before .before .k .given .1) (c .tank-in .ensures)
 
 pub entry-in-spec : {M : Type 1} → statement M
 entry-in-spec =
-    tie.close (tie.spec enum-told item-in-requires enum-told-2 tank-in-requires returns returns-2)
+    tie.close (tie.spec enum-told item-in-requires enum-known-k tank-in-requires returns returns-2)

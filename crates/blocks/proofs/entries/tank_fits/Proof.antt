@@ -1,5 +1,6 @@
 -- `tank_fits` meets its contract: the five limits, one after the other, and the rule of the fill.
 use borrow.Author.Needs.{needs}
+use Rattle.blocks.specs.BlockAnswers.{tankKindOf}
 use Rattle.blocks.proofs.Limits.{ok-tank}
 use Rattle.blocks.proofs.entries.tank_fits.Statement.{statement}
 use Rattle.blocks.proofs.entries.tank_fits.Tie as tie
@@ -38,9 +39,9 @@ both-requires-5 : tie.Need-both-requires-5
 both-requires-5 c κs = search needs
 
 returns : tie.Need-returns
-returns c =
+returns c k =
     let t = c .before .before .before .before .before .before .before .before .before .before .before .before .before .args .t in
-    cc (ok-tank (t .mass) (t .centre) (t .fill) (t .density) (t .inertia))
+    cc (ok-tank (tankKindOf k) (t .mass) (t .centre) (t .fill) (t .density) (t .inertia))
 
 pub tank-fits-spec : {M : Type 1} → statement M
 tank-fits-spec =
