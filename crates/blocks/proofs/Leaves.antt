@@ -67,21 +67,30 @@ unfolding _>>=_
 leaf-block k (refused a b c) = refl
 leaf-block k (got v) = refl
 
-load-tag : (ln at t : ℕ) (k : Load) → t ≡ entry k .tag → tagOf ln at t ≡ got (load k)
+-- Each tag of an entry stands for its kind; one that is no entry's and no group's is 4.
+pub tag-load : (ln at t : ℕ) (k : Load) → t ≡ entry k .tag → tagOf ln at t ≡ got (load k)
 unfolding tagOf
-load-tag ln at t item e = rw e
-load-tag ln at t (tank ordinary) e = rw e
-load-tag ln at t (tank cargo) e = rw e
+tag-load ln at t item e = rw e
+tag-load ln at t (tank ordinary) e = rw e
+tag-load ln at t (tank cargo) e = rw e
+
+pub tag-group : (ln at t : ℕ) → t ≡ groupTag → tagOf ln at t ≡ got nested
+unfolding tagOf
+tag-group ln at t e = rw e
+
+pub tag-other : (ln at t : ℕ) → (t ≡ entry item .tag → ⊥) → (t ≡ entry (tank ordinary) .tag → ⊥) → (t ≡ groupTag → ⊥) → (t ≡ entry (tank cargo) .tag → ⊥) → tagOf ln at t ≡ refused 4 ln at
+unfolding tagOf
+tag-other ln at t a b c d = rw (ne-eqb t (entry item .tag) a, ne-eqb t (entry (tank ordinary) .tag) b, ne-eqb t groupTag c, ne-eqb t (entry (tank cargo) .tag) d)
 
 module _ (ln d n at t : ℕ) (body : List ℕ) where
-  pub block-load : (k : Load) → t ≡ entry k .tag → blockOf (blockAt ln d n at t body) ≡ leafOf k (fixed ln (entry k) (ltb 0 n) at body)
+  pub block-load : (k : Load) → tagOf ln at t ≡ got (load k) → blockOf (blockAt ln d n at t body) ≡ leafOf k (fixed ln (entry k) (ltb 0 n) at body)
   unfolding blockAt begun
-  block-load k e = ap blockOf (bind-got _ (load-tag ln at t k e)) ∙ leaf-block k _
+  block-load k e = ap blockOf (bind-got _ e) ∙ leaf-block k _
 
-  pub block-group : t ≡ groupTag → blockAt ln d n at t body ≡ begun ln d 0 at body nested
-  unfolding blockAt begun tagOf
-  block-group e = bind-got {a = nested} _ (rw e)
+  pub block-group : tagOf ln at t ≡ got nested → blockAt ln d n at t body ≡ begun ln d 0 at body nested
+  unfolding blockAt begun
+  block-group e = bind-got {a = nested} _ e
 
-  pub block-other : (t ≡ entry item .tag → ⊥) → (t ≡ entry (tank ordinary) .tag → ⊥) → (t ≡ groupTag → ⊥) → (t ≡ entry (tank cargo) .tag → ⊥) → blockAt ln d n at t body ≡ refused 4 ln at
-  unfolding blockAt tagOf
-  block-other a b c d = bind-refused _ (rw (ne-eqb t (entry item .tag) a, ne-eqb t (entry (tank ordinary) .tag) b, ne-eqb t groupTag c, ne-eqb t (entry (tank cargo) .tag) d))
+  pub block-other : tagOf ln at t ≡ refused 4 ln at → blockAt ln d n at t body ≡ refused 4 ln at
+  unfolding blockAt
+  block-other e = bind-refused _ e

@@ -1,6 +1,6 @@
 -- What the code answers at a block, from what the rules answer: the values as plain data, or the refusal with its place.
 use mathlib.Core.Bool.{cond}
-use Prim.Native.Nat.{_*_}
+use Prim.Native.Nat.{ℕ, _*_}
 use lib.ListN.{length}
 use Rattle.rules.specs.Blocks as rules
 use Rattle.rules.specs.Loading.{massOf, centreOf, freeSurfaceOf}
@@ -16,6 +16,8 @@ use Rattle.blocks.specs.declared.entries.TankKind.{TankKind}
 use Rattle.blocks.specs.declared.entries.TankKind.the-variants as tankKind
 use Rattle.blocks.specs.declared.entries.Kind.{Kind}
 use Rattle.blocks.specs.declared.entries.Kind.the-variants as kind
+use Rattle.blocks.specs.declared.entries.Tag.{Tag}
+use Rattle.blocks.specs.declared.entries.Tag.the-variants as tag
 use Rattle.blocks.specs.declared.entries.Item.{Item}
 use Rattle.blocks.specs.declared.entries.Tank.{Tank}
 use Rattle.blocks.specs.declared.entries.Held.{Held}
@@ -43,6 +45,12 @@ tankKindOf tankKind.Cargo = rules.cargo
 abbrev pub loadOf : Kind → rules.Load
 loadOf kind.Item = rules.item
 loadOf (kind.Tank k) = rules.tank (tankKindOf k)
+
+-- What a tag means in the rules; where it is no entry's and no group's it is 4.
+abbrev pub tagMeant : ℕ → ℕ → Tag → Ans walk.Tag
+tagMeant line at (tag.Entry k) = got (walk.load (loadOf k))
+tagMeant line at tag.Group = got walk.nested
+tagMeant line at tag.Other = refused 4 line at
 
 abbrev pub itemOf : Item → rules.Item
 itemOf i = record { mass = i .mass; centre = i .centre }

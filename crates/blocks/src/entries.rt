@@ -1,12 +1,12 @@
 // A block among the entries: C2 items, C3 and C5 tanks, and C4 groups as they begin.
 ghost use mathlib.Core.Path.{_≡_};
-ghost use Prim.Native.Nat.{_*_, _≤_};
+ghost use Prim.Native.Nat.{ℕ, _*_, _≤_};
 ghost use lib.ListN.{length};
 ghost use lib.Dec.{ltb};
 ghost use Rattle.rules.specs.Blocks.{size, values, ok, item, tank, entry};
 ghost use Rattle.rules.specs.Loading.{surfaceCounts, freeSurfaceOf};
-ghost use Rattle.rules.specs.Walk.{fixed, nested, begun, blockAt};
-ghost use Rattle.blocks.specs.BlockAnswers.{tankKindOf, loadOf, itemOf, tankOf, heldOf, leafOf, blockOf};
+ghost use Rattle.rules.specs.Walk.{fixed, nested, tagOf, begun, blockAt};
+ghost use Rattle.blocks.specs.BlockAnswers.{tankKindOf, loadOf, itemOf, tankOf, tagMeant, heldOf, leafOf, blockOf};
 use crate::refusal;
 use numbers::both;
 use numbers::either;
@@ -24,6 +24,13 @@ pub enum TankKind {
 pub enum Kind {
     Item,
     Tank(TankKind),
+}
+
+// What a tag stands for among the entries.
+pub enum Tag {
+    Entry(Kind),
+    Group,
+    Other,
 }
 
 // The values of an item, and of a tank.
@@ -209,15 +216,26 @@ fn group(body: &[u8], line: usize, at: usize, depth: u64) -> Block
     Block::Group
 }
 
+// 4: 'tag not allowed there'.
+fn tag_of(tag: u8) -> Tag
+    ensures { λ r. ⌜ ((line at : ℕ) → tagOf line at tag ≡ tagMeant line at r) ⌝ }
+{
+    match tag {
+        0xC2 => Tag::Entry(Kind::Item),
+        0xC3 => Tag::Entry(Kind::Tank(TankKind::Ordinary)),
+        0xC4 => Tag::Group,
+        0xC5 => Tag::Entry(Kind::Tank(TankKind::Cargo)),
+        _ => Tag::Other,
+    }
+}
+
 // A block among the entries: 4, 3, 5, 6.
 pub fn block_at(tag: u8, body: &[u8], line: usize, at: usize, depth: u64, left: u64) -> Block
     ensures { λ r. ⌜ r ≡ blockOf (blockAt line depth left at tag (now (body .entry))) ⌝ }
 {
-    match tag {
-        0xC2 => leaf(Kind::Item, body, line, at, left),
-        0xC3 => leaf(Kind::Tank(TankKind::Ordinary), body, line, at, left),
-        0xC4 => group(body, line, at, depth),
-        0xC5 => leaf(Kind::Tank(TankKind::Cargo), body, line, at, left),
-        _ => Block::Refused(refusal(4, line, at)),
+    match tag_of(tag) {
+        Tag::Entry(k) => leaf(k, body, line, at, left),
+        Tag::Group => group(body, line, at, depth),
+        Tag::Other => Block::Refused(refusal(4, line, at)),
     }
 }

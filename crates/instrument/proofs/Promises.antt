@@ -132,7 +132,7 @@ two-such-texts = (replies.allowed P1 asOne (reads-as .0), replies.allowed regrou
 -- ---- cargo tanks
 -- Two texts, each with room, that differ in the tag of one tank and in nothing else: t, a C3 in the first, is a C5 in the second.
 module _ (text text′ before before′ : List ℕ) (n n′ : ℕ) (after after′ : List ℕ) (run : Judges text before n after) (run′ : Judges text′ before′ n′ after′) (room : reportLength ≤ length before) (room′ : reportLength ≤ length before′)
-  (a : Allowed text) (a′ : Allowed text′) (t : Tank) (G : Entries) (made : MadeCargo t (a .0 .condition .load) G) (same : a′ .0 ≡ loadedWith (a .0) G) where
+    (a : Allowed text) (a′ : Allowed text′) (t : Tank) (G : Entries) (made : MadeCargo t (a .0 .condition .load) G) (same : a′ .0 ≡ loadedWith (a .0) G) where
   -- Filled below 98 %, the tag makes no difference: the same number and the same report.
   pub cargo-alike-below : t .fill < 980 → (n ≡ n′) × (take reportLength after ≡ take reportLength after′)
   cargo-alike-below slack = reading-settles text text′ before before′ n n′ after after′ run run′ room room′ a a′ (replies.same-sums-below (a .0) (a′ .0) t G made same slack)

@@ -184,8 +184,7 @@ module _ (t before : List ℕ) (n : ℕ) (after : List ℕ) (N : n ≡ number t 
     figures-made-cargo z a r v G made same full =
         let f = figures-of-leaves z a in
         let s = sums-full made full in
-        let load : a .0 .condition .load ≡ G = ap (λ (x : Reading). x .condition .load) same in
-        (
+        let load : a .0 .condition .load ≡ G = ap (λ (x : Reading). x .condition .load) same in (
           f .0 ∙ ap (λ (F : Entries). hex (digits 8 (sumLeaves mass F))) load ∙ ap (λ (m : ℕ). hex (digits 8 m)) (s .0),
           f .1 ∙ ap (λ (F : Entries). hex (digits 8 (ceil (sumLeaves moment F + sumLeaves freeSurface F) (sumLeaves mass F)))) load ∙ ap₂ (λ (m w : ℕ). hex (digits 8 (ceil m w))) (s .1) (s .0),
         )
