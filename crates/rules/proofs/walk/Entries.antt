@@ -42,11 +42,29 @@ Bytes-entries (group g r) G l =
     let L = length-group g r in
     Bytes-append (block groupTag (spell g)) (spell r) (Bytes-block groupTag (spell g) (omega arith) (omega arith) (Bytes-entries g (G .1) (omega arith))) (Bytes-entries r (G .2) (omega arith))
 
--- ---- sound
+-- ---- one block
 abbrev code : Tag → ℕ
 code (load k) = entry k .tag
 code nested = groupTag
 
+module _ (ln : ℕ) where
+  tagOf-got : (at : ℕ) (x : Tag) → tagOf ln at (code x) ≡ got x
+  unfolding tagOf
+  tagOf-got at (load item) = refl
+  tagOf-got at (load (tank ordinary)) = refl
+  tagOf-got at (load (tank cargo)) = refl
+  tagOf-got at nested = refl
+
+  -- An entry within its limits, and a group with something in it, pass their tests.
+  pub entry-passes : (d n at : ℕ) (k : Load) (v : Values k) → 0 < n → ok (entry k) v ≡ true → blockAt ln d n at (entry k .tag) (spellValues (entry k .fields) (entry k .listed v)) ≡ got (one k v)
+  unfolding blockAt begun
+  entry-passes d n at k v h e = bind-got _ (tagOf-got at (load k)) ∙ bind-got _ (fixed-got ln at (entry k) (entry-lawful k) (ltb 0 n) v (lt-ltb 0 n h) e)
+
+  pub group-passes : (d n at : ℕ) (body : List ℕ) → 0 < d → full body ≡ true → blockAt ln d n at groupTag body ≡ got nest
+  unfolding blockAt begun
+  group-passes d n at body h e = bind-got _ (tagOf-got at nested) ∙ test-got _ _ _ _ (lt-ltb 0 d h) ∙ test-got _ _ _ _ e
+
+-- ---- sound
 -- What it means for a tree to stand in these bytes, with d depths and n entries left.
 pub record Stands (d n : ℕ) (s : List ℕ) (F : Entries) : Type 0 where
   pub spells : spell F ≡ s
@@ -141,32 +159,16 @@ module _ (ln : ℕ) where
   entries-sound d n at s = walk-sound (suc (length s)) d n at s
 
   -- ---- complete
-  tagOf-got : (at : ℕ) (x : Tag) → tagOf ln at (code x) ≡ got x
-  unfolding tagOf
-  tagOf-got at (load item) = refl
-  tagOf-got at (load (tank ordinary)) = refl
-  tagOf-got at (load (tank cargo)) = refl
-  tagOf-got at nested = refl
-
-  -- An entry within its limits, and a group with something in it, pass their tests.
-  pub entry-passes : (d n at : ℕ) (k : Load) (v : Values k) → 0 < n → ok (entry k) v ≡ true → blockAt ln d n at (entry k .tag) (spellValues (entry k .fields) (entry k .listed v)) ≡ got (one k v)
-  unfolding blockAt begun
-  entry-passes d n at k v h e = bind-got _ (tagOf-got at (load k)) ∙ bind-got _ (fixed-got ln at (entry k) (entry-lawful k) (ltb 0 n) v (lt-ltb 0 n h) e)
-
-  pub group-passes : (d n at : ℕ) (body : List ℕ) → 0 < d → full body ≡ true → blockAt ln d n at groupTag body ≡ got nest
-  unfolding blockAt begun
-  group-passes d n at body h e = bind-got _ (tagOf-got at nested) ∙ test-got _ _ _ _ (lt-ltb 0 d h) ∙ test-got _ _ _ _ e
-
   pub entries-got : (F : Entries) (d n at : ℕ) → Good F → depth F ≤ d → leaves F ≤ n → length (spell F) < 65_536 → entries ln d n at (spell F) ≡ got F
   unfolding step spell spellBlock Good depth leaves
   entries-got end d n at G D N l = entries-none ln d n at
   entries-got (leaf k v r) d n at G D N l =
       let body : List ℕ = spellValues (entry k .fields) (entry k .listed v) in
       let L = length-leaf k v r in
-      entries-block ln d n at (entry k .tag) body (spell r) (omega arith) ∙ bind-got _ (entry-passes d n at k v (omega arith) (G .0))
+      entries-block ln d n at (entry k .tag) body (spell r) (omega arith) ∙ bind-got _ (entry-passes ln d n at k v (omega arith) (G .0))
       ∙ bind-got _ (entries-got r d (n - 1) (at + 3 + length body) (G .1) D (omega arith) (omega arith))
   entries-got (group g r) d n at G D N l =
       let L = length-group g r in
-      entries-block ln d n at groupTag (spell g) (spell r) (omega arith) ∙ bind-got _ (group-passes d n at (spell g) (omega arith) (full-spell g ∙ G .0))
+      entries-block ln d n at groupTag (spell g) (spell r) (omega arith) ∙ bind-got _ (group-passes ln d n at (spell g) (omega arith) (full-spell g ∙ G .0))
       ∙ bind-got _ (entries-got g (d - 1) n (at + 3) (G .1) (omega arith) (omega arith) (omega arith))
       ∙ bind-got _ (entries-got r d (n - leaves g) (at + 3 + length (spell g)) (G .2) (omega arith) (omega arith) (omega arith))
