@@ -216,7 +216,7 @@ fn group(body: &[u8], line: usize, at: usize, depth: u64) -> Block
     Block::Group
 }
 
-// 4: 'tag not allowed there'.
+// The tags of 01's table and request 1's; 4: 'tag not allowed there'.
 fn tag_of(tag: u8) -> Tag
     ensures { λ r. ⌜ ((line at : ℕ) → tagOf line at tag ≡ tagMeant line at r) ⌝ }
 {

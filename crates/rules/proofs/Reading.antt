@@ -1,5 +1,5 @@
 -- What is promised of the reading of a text, to be read without the proofs: each promise is one theorem with a sentence above it, and its proof stands elsewhere.
--- Its words are defined in specs/: Layout says which texts are allowed, Walk in which order they are checked, Places where blocks and refusals stand, Leaves what is summed, Met what a reading comes to.
+-- Its words are defined in specs/: Layout says which texts are allowed, Walk in which order they are checked, Places where blocks and refusals stand, Loading and Leaves what is summed and what a load is with one tank made a cargo tank, Met what a reading comes to.
 use mathlib.Core.Path.{_≡_, sym}
 use mathlib.Core.Logic.{_↔_, _≢_}
 use mathlib.Core.List.{List, _∷_, _++_}
@@ -71,7 +71,7 @@ grouping-free r F G e = judged-same r F G e
 pub cargo-never-forgiven : (t : Tank) → 0 < t .fill → freeSurfaceOf (tank cargo) t ≡ 1000 * t .density * t .inertia
 cargo-never-forgiven t h = cargo-moment t h
 
--- A C5 is tested as a C3: with any body, at any place, with any number of depths and entries left, the one is refused exactly when the other is, with the same number, line and offset; and where they are not, both hold the same values.
+-- A C5 is tested as a C3: with any body, at any place, with any number of depths and entries left, the one is refused exactly when the other is, with the same number, line and offset (4, 3, 5, 6; 2 is tested before the tag is looked at); and where they are not, both hold the same values.
 pub tested-as-tank : (ln d n at : ℕ) (body : List ℕ) → ((m l o : ℕ) → (blockAt ln d n at 0xC5 body ≡ refused m l o) ↔ (blockAt ln d n at 0xC3 body ≡ refused m l o))
     × ((t : Tank) → (blockAt ln d n at 0xC5 body ≡ got (one (tank cargo) t)) ↔ (blockAt ln d n at 0xC3 body ≡ got (one (tank ordinary) t)))
 tested-as-tank ln d n at body = (

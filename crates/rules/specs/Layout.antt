@@ -7,7 +7,7 @@ use lib.ListN.{length}
 use Rattle.rules.specs.Text.{text}
 use Rattle.rules.specs.Blocks.{block, ok, spellBlock, Ship, ship, Row, row, conditionTag, Weather, weather, Load, Values, entry, groupTag}
 
--- 'One or more of C2, C3, C4' side by side: none more; an item or a tank and those after it; a group and those after it.
+-- 'One or more of C2, C3, C4', and C5, 'allowed where C3 is' (request 1), side by side: none more; an item or a tank and those after it; a group and those after it.
 pub data Entries : Type 0 where
   end : Entries
   leaf : (k : Load) → Values k → Entries → Entries

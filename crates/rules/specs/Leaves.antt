@@ -1,4 +1,4 @@
--- The tree of entries by its leaves: sums over it, and the same leaves with no groups around them.
+-- The tree of entries by its leaves: sums over it, the same leaves with no groups around them, and the same leaves with one tank made a cargo tank.
 use mathlib.Core.Path.{_≡_}
 use Prim.Native.Nat.{ℕ, _+_}
 use Rattle.rules.specs.Blocks.{Tank, ordinary, cargo, Load, tank, Values}
