@@ -67,17 +67,7 @@ unfolding _>>=_
 leaf-block k (refused a b c) = refl
 leaf-block k (got v) = refl
 
--- Each tag of an entry stands for its kind; one that is no entry's and no group's is 4.
-pub tag-load : (ln at t : ℕ) (k : Load) → t ≡ entry k .tag → tagOf ln at t ≡ got (load k)
-unfolding tagOf
-tag-load ln at t item e = rw e
-tag-load ln at t (tank ordinary) e = rw e
-tag-load ln at t (tank cargo) e = rw e
-
-pub tag-group : (ln at t : ℕ) → t ≡ groupTag → tagOf ln at t ≡ got nested
-unfolding tagOf
-tag-group ln at t e = rw e
-
+-- A tag that is no entry's and no group's is 4.
 pub tag-other : (ln at t : ℕ) → (t ≡ entry item .tag → ⊥) → (t ≡ entry (tank ordinary) .tag → ⊥) → (t ≡ groupTag → ⊥) → (t ≡ entry (tank cargo) .tag → ⊥) → tagOf ln at t ≡ refused 4 ln at
 unfolding tagOf
 tag-other ln at t a b c d = rw (ne-eqb t (entry item .tag) a, ne-eqb t (entry (tank ordinary) .tag) b, ne-eqb t groupTag c, ne-eqb t (entry (tank cargo) .tag) d)

@@ -1,25 +1,27 @@
 -- What is promised of the instrument, to be read without the proofs: each promise is one theorem with a sentence above it, and its proof stands elsewhere.
 -- All are stated of `judge` through its contract, which `judge` is proved to meet (proofs/judge). Their words are defined in the rules' specs/: Answer, Report and Columns (what is answered, its 209 characters, and where each number stands among them), Layout (which texts are allowed), Walk (the reading), Places (where a refusal stands), Leaves and Loading (sums, masses and KG); and in specs/Faults (1 and 2) and Outside (7 and 8).
 use mathlib.Core.Path.{_≡_, refl, sym, _∙_}
-use mathlib.Core.Logic.{_↔_, _≢_}
+use mathlib.Core.Logic.{_↔_, _≢_, _⊎_, ⊎-elim}
 use mathlib.Core.List.{List, []}
 use Prim.Native.Nat.{ℕ, _+_, _*_, _≤_, _<_}
 use lib.ListN.{length, take, drop}
 use denote.Ref.{RefT, now}
 use Rattle.rules.specs.Rounding.{ceil}
 use Rattle.rules.specs.Numbers.{digits}
-use Rattle.rules.specs.Text.{hex}
+use Rattle.rules.specs.Text.{hex, text, Lines}
 use Rattle.rules.specs.Blocks.{Tank}
-use Rattle.rules.specs.Layout.{Entries, Reading, Allowed}
+use Rattle.rules.specs.Layout.{Entries, Reading, mostCharacters, Allowed}
 use Rattle.rules.specs.Outcome.{refused, got}
 use Rattle.rules.specs.Walk.{read}
 use Rattle.rules.specs.Loading.{mass, moment, freeSurface, weighed}
-use Rattle.rules.specs.Leaves.{sumLeaves, SameSums, MadeCargo, loadedWith}
+use Rattle.rules.specs.Leaves.{sumLeaves, SameSums, loadedWith}
+use Rattle.rules.specs.Cargo.{MadeCargo, RetaggedLines}
 use Rattle.rules.specs.Curve.{loaded}
 use Rattle.rules.specs.Report.{judgement, noJudgement, report, reportLength}
 use Rattle.rules.specs.Columns.{figureIn}
 use Rattle.rules.specs.Places.{Placed}
 use Rattle.rules.specs.Answer.{answered, reportOf, number, written}
+use Rattle.rules.proofs.walk.Retagged.{refused-alike, read-made-cargo}
 use Rattle.rules.proofs.bench.Bench.{P1, P1-output}
 use Rattle.rules.proofs.bench.CargoTank.{tanker, cargo-output, planner-holds}
 use Rattle.rules.proofs.bench.Regrouped.{regrouped, asOne, asGroup, reads-as, same-sums, two-texts}
@@ -130,19 +132,35 @@ pub two-such-texts : (a : Allowed P1) × (a′ : Allowed regrouped) × SameSums 
 two-such-texts = (replies.allowed P1 asOne (reads-as .0), replies.allowed regrouped asGroup (reads-as .1), same-sums, two-texts)
 
 -- ---- cargo tanks
--- Two texts, each with room, that differ in the tag of one tank and in nothing else: t, a C3 in the first, is a C5 in the second.
-module _ (text text′ before before′ : List ℕ) (n n′ : ℕ) (after after′ : List ℕ) (run : Judges text before n after) (run′ : Judges text′ before′ n′ after′) (room : reportLength ≤ length before) (room′ : reportLength ≤ length before′)
-    (a : Allowed text) (a′ : Allowed text′) (t : Tank) (G : Entries) (made : MadeCargo t (a .0 .condition .load) G) (same : a′ .0 ≡ loadedWith (a .0) G) where
-  -- Filled below 98 %, the tag makes no difference: the same number and the same report.
-  pub cargo-alike-below : t .fill < 980 → (n ≡ n′) × (take reportLength after ≡ take reportLength after′)
-  cargo-alike-below slack = reading-settles text text′ before before′ n n′ after after′ run run′ room room′ a a′ (replies.same-sums-below (a .0) (a′ .0) t G made same slack)
+-- Two texts of lines within 12,000 characters, each with room, that differ in one tag alone: a block that begins with C3 in the first, well or ill and wherever it stands, begins with C5 in the second.
+module _ (ls ls′ : List (List ℕ)) (retagged : RetaggedLines ls ls′) (L : Lines ls) (short : length (text ls) ≤ mostCharacters)
+    (before before′ : List ℕ) (n n′ : ℕ) (after after′ : List ℕ) (run : Judges (text ls) before n after) (run′ : Judges (text ls′) before′ n′ after′) (room : reportLength ≤ length before) (room′ : reportLength ≤ length before′) where
+  -- A C5 is tested as a C3: where either is refused with one of 1 to 6, both have the same number and the same report, and so the same place.
+  pub tested-as-tank : ((1 ≤ n) × (n ≤ 6)) ⊎ ((1 ≤ n′) × (n′ ≤ 6)) → (n ≡ n′) × (take reportLength after ≡ take reportLength after′)
+  tested-as-tank =
+      let p = contract (text ls) before n after .0 run in
+      let q = contract (text ls′) before′ n′ after′ .0 run′ in
+      ⊎-elim
+      (replies.refused-same (text ls) (text ls′) before before′ n n′ after after′ (p .0) (p .1) (q .0) (q .1) room room′ (λ m l o. refused-alike retagged L short m l o .0))
+      (λ x. let s = replies.refused-same (text ls′) (text ls) before′ before n′ n after′ after (q .0) (q .1) (p .0) (p .1) room′ room (λ m l o. refused-alike retagged L short m l o .1) x in (sym (s .0), sym (s .1)))
 
-  -- From 98 % on the C5 is not forgiven: where the second text is judged, its figure of W is of the first one's entries, and its figure of KG is of their moments and free surface moments with the full moment of t besides.
-  pub cargo-never-forgiven : 980 ≤ t .fill → n′ ≡ 0 → (figureIn 0 after′ ≡ hex (digits 8 (sumLeaves mass (a .0 .condition .load))))
-      × (figureIn 1 after′ ≡ hex (digits 8 (ceil (sumLeaves moment (a .0 .condition .load) + sumLeaves freeSurface (a .0 .condition .load) + 1000 * t .density * t .inertia) (sumLeaves mass (a .0 .condition .load)))))
-  cargo-never-forgiven full judged =
-      let q = contract text′ before′ n′ after′ .0 run′ in
-      replies.figures-made-cargo text′ before′ n′ after′ (q .0) (q .1) room′ judged a′ (a .0) t G made same full
+  -- Otherwise that block is a tank t of the first text, and the second says the same with t made a cargo tank.
+  -- Filled below 98 %, the two get the same number and the same report. From 98 % on the C5 is not forgiven: where the second text is judged, its figure of W is of the first one's masses, and its figure of KG of the first one's moments and free surface moments with the full moment of t besides.
+  pub cargo-never-forgiven : (a : Allowed (text ls)) → (t : Tank) × (G : Entries) × MadeCargo t (a .0 .condition .load) G × (read (text ls′) ≡ got (loadedWith (a .0) G))
+      × (t .fill < 980 → (n ≡ n′) × (take reportLength after ≡ take reportLength after′))
+      × (980 ≤ t .fill → n′ ≡ 0 → (figureIn 0 after′ ≡ hex (digits 8 (sumLeaves mass (a .0 .condition .load))))
+      × (figureIn 1 after′ ≡ hex (digits 8 (ceil (sumLeaves moment (a .0 .condition .load) + sumLeaves freeSurface (a .0 .condition .load) + 1000 * t .density * t .inertia) (sumLeaves mass (a .0 .condition .load))))))
+  cargo-never-forgiven a =
+      let m = read-made-cargo retagged L short (a .0) (replies.read-of (text ls) a) in
+      let a′ = replies.allowed (text ls′) (loadedWith (a .0) (m .1)) (m .3) in
+      let q = contract (text ls′) before′ n′ after′ .0 run′ in (
+        m .0,
+        m .1,
+        m .2,
+        m .3,
+        λ slack. reading-settles (text ls) (text ls′) before before′ n n′ after after′ run run′ room room′ a a′ (replies.same-sums-below (a .0) (m .0) (m .1) (m .2) slack),
+        λ full judged. replies.figures-made-cargo (text ls′) before′ n′ after′ (q .0) (q .1) room′ judged (a .0) (m .0) (m .1) (m .3) (m .2) full,
+      )
 
 -- The planner's tank, filled to 98.5 %, in two texts that differ in the tag alone. As a C3 it is forgiven: KG is 4,000 mm (FA0) and all eight criteria pass. As a C5 it is not: KG is 4,200 mm (1068), and criteria 1 and 3 fail.
 pub planners-tank : (before before′ : List ℕ) (n n′ : ℕ) (after after′ : List ℕ) → Judges (tanker "C3") before n after → Judges (tanker "C5") before′ n′ after′ → reportLength ≤ length before → reportLength ≤ length before′

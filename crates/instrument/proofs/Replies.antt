@@ -18,7 +18,8 @@ use Rattle.rules.specs.Blocks.{Tank}
 use Rattle.rules.specs.Layout.{Entries, Reading, Allowed, mostCharacters}
 use Rattle.rules.specs.Outcome.{Ans, refused, got, test}
 use Rattle.rules.specs.Walk.{read}
-use Rattle.rules.specs.Leaves.{sumLeaves, SameSums, MadeCargo, loadedWith}
+use Rattle.rules.specs.Leaves.{sumLeaves, SameSums, loadedWith}
+use Rattle.rules.specs.Cargo.{MadeCargo}
 use Rattle.rules.specs.Columns.{figureIn}
 use Rattle.rules.specs.Places.{Placed}
 use Rattle.rules.specs.Loading.{mass, moment, nominallyFull, freeSurface, weighed, inTable, displacement, correctedKG, firstMass, lastMass, greatestKG, entriesOf}
@@ -178,16 +179,13 @@ module _ (t before : List ℕ) (n : ℕ) (after : List ℕ) (N : n ≡ number t 
         weighed-cases r (λ _ w. absurd (omega (arith, weighing-sent r e 7 w .0))) (λ _ w. absurd (omega (arith, weighing-sent r e 8 w .0))) (λ _ w. (W-figure a w, KG-figure a w))
 
     -- The same of a reading with one of its tanks, filled to 98 % or more, made a cargo tank.
-    pub figures-made-cargo : n ≡ 0 → (a : Allowed t) (r : Reading) (v : Tank) (G : Entries) → MadeCargo v (r .condition .load) G → a .0 ≡ loadedWith r G → nominallyFull ≤ v .fill
+    pub figures-made-cargo : n ≡ 0 → (r : Reading) (v : Tank) (G : Entries) → read t ≡ got (loadedWith r G) → MadeCargo v (r .condition .load) G → nominallyFull ≤ v .fill
         → (figureIn 0 after ≡ hex (digits 8 (sumLeaves mass (r .condition .load))))
         × (figureIn 1 after ≡ hex (digits 8 (ceil (sumLeaves moment (r .condition .load) + sumLeaves freeSurface (r .condition .load) + 1000 * v .density * v .inertia) (sumLeaves mass (r .condition .load)))))
-    figures-made-cargo z a r v G made same full =
-        let f = figures-of-leaves z a in
+    figures-made-cargo z r v G e made full =
+        let f = figures-of-leaves z (allowed t (loadedWith r G) e) in
         let s = sums-full made full in
-        let load : a .0 .condition .load ≡ G = ap (λ (x : Reading). x .condition .load) same in (
-          f .0 ∙ ap (λ (F : Entries). hex (digits 8 (sumLeaves mass F))) load ∙ ap (λ (m : ℕ). hex (digits 8 m)) (s .0),
-          f .1 ∙ ap (λ (F : Entries). hex (digits 8 (ceil (sumLeaves moment F + sumLeaves freeSurface F) (sumLeaves mass F)))) load ∙ ap₂ (λ (m w : ℕ). hex (digits 8 (ceil m w))) (s .1) (s .0),
-        )
+        (f .0 ∙ ap (λ (m : ℕ). hex (digits 8 m)) (s .0), f .1 ∙ ap₂ (λ (m w : ℕ). hex (digits 8 (ceil m w))) (s .1) (s .0))
 
     -- ---- which number
     refused-by : (m l o : ℕ) → read t ≡ refused m l o → (1 ≤ n) × (n ≤ 6)
@@ -278,5 +276,10 @@ by-sums t t′ before before′ n n′ after after′ N W N′ W′ room room′
     (u .0 ∙ ap numberOf e ∙ sym (v .0), u .1 ∙ ap reportOf e ∙ sym (v .1))
 
 -- A reading with one of its tanks, filled below 98 %, made a cargo tank has the same sums.
-pub same-sums-below : (r s : Reading) (v : Tank) (G : Entries) → MadeCargo v (r .condition .load) G → s ≡ loadedWith r G → v .fill < nominallyFull → SameSums r s
-same-sums-below r s v G made same h = let e = sums-below made h in rw same (record { ship = refl; rows = refl; weather = refl; masses = e .0; moments = e .1 })
+pub same-sums-below : (r : Reading) (v : Tank) (G : Entries) → MadeCargo v (r .condition .load) G → v .fill < nominallyFull → SameSums r (loadedWith r G)
+same-sums-below r v G made h = let e = sums-below made h in record { ship = refl; rows = refl; weather = refl; masses = e .0; moments = e .1 }
+
+-- ---- two texts that are refused alike
+module _ (t t′ before before′ : List ℕ) (n n′ : ℕ) (after after′ : List ℕ) (N : n ≡ number t before) (W : after ≡ written t before) (N′ : n′ ≡ number t′ before′) (W′ : after′ ≡ written t′ before′) (h : reportLength ≤ length before) (h′ : reportLength ≤ length before′) where
+  pub refused-same : ((m l o : ℕ) → read t ≡ refused m l o → read t′ ≡ refused m l o) → (1 ≤ n) × (n ≤ 6) → (n ≡ n′) × (take reportLength after ≡ take reportLength after′)
+  refused-same f x = by-refusal t before n after N W h (x .0) (x .1) (λ l o e q. let s = refusal-sent t′ before′ n′ after′ N′ W′ h′ n l o (f n l o e) in (sym (s .0), q ∙ sym (s .1)))

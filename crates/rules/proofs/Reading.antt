@@ -1,5 +1,5 @@
 -- What is promised of the reading of a text, to be read without the proofs: each promise is one theorem with a sentence above it, and its proof stands elsewhere.
--- Its words are defined in specs/: Layout says which texts are allowed, Walk in which order they are checked, Places where blocks and refusals stand, Loading and Leaves what is summed and what a load is with one tank made a cargo tank, Met what a reading comes to.
+-- Its words are defined in specs/: Layout says which texts are allowed, Walk in which order they are checked, Places where blocks and refusals stand, Loading and Leaves what is summed, Cargo what it is for a C3 to be made a C5, Met what a reading comes to.
 use mathlib.Core.Path.{_≡_, sym}
 use mathlib.Core.Logic.{_↔_, _≢_}
 use mathlib.Core.List.{List, _∷_, _++_}
@@ -7,12 +7,13 @@ use Prim.Native.Nat.{ℕ, _+_, _*_, _≤_, _<_}
 use lib.ListN.{length, getD}
 use Rattle.rules.specs.Rounding.{ceil}
 use Rattle.rules.specs.Text.{LF, text, Lines}
-use Rattle.rules.specs.Blocks.{conditionTag, Tank, ordinary, cargo, tank}
+use Rattle.rules.specs.Blocks.{conditionTag, Tank, TankKind, ordinary, cargo, tank}
 use Rattle.rules.specs.Layout.{Entries, Reading, frames, spellText, leaves, mostCharacters, Limits, Allowed}
 use Rattle.rules.specs.Outcome.{refused, got}
-use Rattle.rules.specs.Walk.{linesFrom, one, blockAt, read}
+use Rattle.rules.specs.Walk.{linesFrom, read}
 use Rattle.rules.specs.Loading.{flat, mass, moment, freeSurfaceOf, freeSurface, displacement, correctedKG, entriesOf}
-use Rattle.rules.specs.Leaves.{sumLeaves, MadeCargo, ungrouped, loadedWith}
+use Rattle.rules.specs.Leaves.{sumLeaves, ungrouped, loadedWith}
+use Rattle.rules.specs.Cargo.{MadeCargo, RetaggedLines}
 use Rattle.rules.specs.Places.{LinesFill, SameBefore, lookedAt, LineAt, Placed}
 use Rattle.rules.specs.Met.{Met, Overruns, NoLF, NoLine, FirstNoLine}
 use Rattle.rules.specs.Answer.{judged, answered}
@@ -20,7 +21,8 @@ use Rattle.rules.proofs.walk.WholeText.{sound, lines-of-reading, readin
 use Rattle.rules.proofs.walk.Refusals.{number-of-refusal, not-both, unrefused-iff-allowed}
 use Rattle.rules.proofs.layout.InsideParent.{reading-fills}
 use Rattle.rules.proofs.loading.Sums.{leaves-flat, displacement-leaves, correctedKG-leaves, flat-ungrouped, judged-same}
-use Rattle.rules.proofs.loading.Cargo.{cargo-moment, refused-alike, read-alike, limits-alike, sums-made-cargo}
+use Rattle.rules.proofs.loading.Cargo.{cargo-moment, empty-none, slack-moment, forgiven, limits-alike, sums-made-cargo}
+use Rattle.rules.proofs.walk.Retagged.{refused-alike, read-made-cargo, retagged-lines}
 use Rattle.rules.proofs.walk.OnlyOverrun.{two-overrun}
 use Rattle.rules.proofs.bench.Drawing.{drawing, drawing-refused}
 use Rattle.rules.proofs.walk.FirstFault.{fault-stands}
@@ -71,15 +73,15 @@ grouping-free r F G e = judged-same r F G e
 pub cargo-never-forgiven : (t : Tank) → 0 < t .fill → freeSurfaceOf (tank cargo) t ≡ 1000 * t .density * t .inertia
 cargo-never-forgiven t h = cargo-moment t h
 
--- A C5 is tested as a C3: with any body, at any place, with any number of depths and entries left, the one is refused exactly when the other is, with the same number, line and offset (4, 3, 5, 6; 2 is tested before the tag is looked at); and where they are not, both hold the same values.
-pub tested-as-tank : (ln d n at : ℕ) (body : List ℕ) → ((m l o : ℕ) → (blockAt ln d n at 0xC5 body ≡ refused m l o) ↔ (blockAt ln d n at 0xC3 body ≡ refused m l o))
-    × ((t : Tank) → (blockAt ln d n at 0xC5 body ≡ got (one (tank cargo) t)) ↔ (blockAt ln d n at 0xC3 body ≡ got (one (tank ordinary) t)))
-tested-as-tank ln d n at body = (
-  λ m l o. (refused-alike ln d n at body cargo ordinary, refused-alike ln d n at body ordinary cargo),
-  λ t. (read-alike ln d n at body cargo ordinary t, read-alike ln d n at body ordinary cargo t),
-)
+-- C3 keeps document 01's rule: its full moment from fill 1 to 979, nothing from 980 on.
+pub tank-forgiven : (t : Tank) → (0 < t .fill → t .fill < 980 → freeSurfaceOf (tank ordinary) t ≡ 1000 * t .density * t .inertia) × (980 ≤ t .fill → freeSurfaceOf (tank ordinary) t ≡ 0)
+tank-forgiven t = (slack-moment t, forgiven t)
 
--- It is allowed wherever a C3 is, in the condition and in groups of any depth: a reading with one of its C3s made a C5 is within the limits exactly when it was.
+-- An empty tank has none, of either kind.
+pub empty-has-none : (k : TankKind) (t : Tank) → t .fill ≡ 0 → freeSurfaceOf (tank k) t ≡ 0
+empty-has-none k t h = empty-none k t h
+
+-- A C5 is allowed wherever a C3 is, in the condition and in groups of any depth: a reading with one of its C3s made a C5 is within the limits exactly when it was.
 pub cargo-where-tank : (t : Tank) (r : Reading) (G : Entries) → MadeCargo t (r .condition .load) G → Limits r ↔ Limits (loadedWith r G)
 cargo-where-tank t r G made = limits-alike r G made
 
@@ -87,6 +89,21 @@ cargo-where-tank t r G made = limits-alike r G made
 pub kind-decides-surface : (t : Tank) (F G : Entries) → MadeCargo t F G → (sumLeaves mass F ≡ sumLeaves mass G) × (sumLeaves moment F ≡ sumLeaves moment G)
     × (sumLeaves freeSurface F + freeSurfaceOf (tank cargo) t ≡ sumLeaves freeSurface G + freeSurfaceOf (tank ordinary) t)
 kind-decides-surface t F G made = sums-made-cargo made
+
+-- A C5 is tested as a C3. Take a text of lines within 12,000 characters and any block in it that begins with C3, well or ill, whatever stands before it and behind it: a frame, the first block of a condition, or one behind it, in groups or not. Let it begin with C5:
+-- the one text is refused exactly when the other is, with the same number, line and offset.
+pub tested-as-tank : (ls ls′ : List (List ℕ)) → RetaggedLines ls ls′ → Lines ls → length (text ls) ≤ mostCharacters → (n l o : ℕ) → (read (text ls) ≡ refused n l o) ↔ (read (text ls′) ≡ refused n l o)
+tested-as-tank ls ls′ retagged L h = refused-alike retagged L h
+
+-- Where the first is read, so is the second: it says the same but for one tank, which is a C3 in the first and a C5 in the second.
+pub tag-alone : (ls ls′ : List (List ℕ)) → RetaggedLines ls ls′ → Lines ls → length (text ls) ≤ mostCharacters
+    → (r : Reading) → read (text ls) ≡ got r → (t : Tank) × (G : Entries) × MadeCargo t (r .condition .load) G × (read (text ls′) ≡ got (loadedWith r G))
+tag-alone ls ls′ retagged L h = read-made-cargo retagged L h
+
+-- That is so of each C3 of each text that is read: the text's lines, and those that its reading has with that C3 made a C5, are such a pair.
+pub every-tank-retagged : (s : List ℕ) (r : Reading) → read s ≡ got r → (t : Tank) (G : Entries) → MadeCargo t (r .condition .load) G
+    → RetaggedLines (frames r) (frames (loadedWith r G)) × Lines (frames r) × (text (frames r) ≡ s) × (length s ≤ mostCharacters)
+every-tank-retagged s r e t G made = retagged-lines s r e G made
 
 -- ---- what is refused
 -- A text of lines within 12,000 characters is refused with 2 at a line and an offset exactly where a block is met there whose length runs past its parent, or one or two bytes where a block would begin.

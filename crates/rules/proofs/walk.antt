@@ -18,3 +18,4 @@ pub mod FrameFault
 pub mod FirstFault
 pub mod BadLine
 pub mod PlaceWithin
+pub mod Retagged

@@ -1,7 +1,6 @@
--- The tree of entries by its leaves: sums over it, the same leaves with no groups around them, and the same leaves with one tank made a cargo tank.
+-- The tree of entries by its leaves: sums over it, and the same leaves with no groups around them.
 use mathlib.Core.Path.{_≡_}
 use Prim.Native.Nat.{ℕ, _+_}
-use Rattle.rules.specs.Blocks.{Tank, ordinary, cargo, Load, tank, Values}
 use Rattle.rules.specs.Layout.{Entries, end, leaf, group, Reading}
 use Rattle.rules.specs.Loading.{Entry, mass, moment, freeSurface}
 
@@ -35,10 +34,3 @@ ungrouped (group g r) = followed (ungrouped g) (ungrouped r)
 -- The reading with this load.
 abbrev pub loadedWith : Reading → Entries → Reading
 loadedWith r F = record { ship = r .ship; rows = r .rows; condition = record { weather = r .condition .weather; load = F } }
-
--- `MadeCargo t F G`: the load G is F with one of its tanks, t, a C3 in F, made a C5. Nothing else differs.
-pub data MadeCargo (t : Tank) : Entries → Entries → Type 0 where
-  here : (r : Entries) → MadeCargo t (leaf (tank ordinary) t r) (leaf (tank cargo) t r)
-  afterEntry : (k : Load) (v : Values k) {r r′ : Entries} → MadeCargo t r r′ → MadeCargo t (leaf k v r) (leaf k v r′)
-  afterGroup : (g : Entries) {r r′ : Entries} → MadeCargo t r r′ → MadeCargo t (group g r) (group g r′)
-  inGroup : {g g′ : Entries} (r : Entries) → MadeCargo t g g′ → MadeCargo t (group g r) (group g′ r)

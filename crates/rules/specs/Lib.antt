@@ -10,6 +10,7 @@ pub mod Places
 pub mod Met
 pub mod Loading
 pub mod Leaves
+pub mod Cargo
 pub mod Curve
 pub mod Criteria
 pub mod Roll

@@ -40,11 +40,11 @@ abbrev pub surfaceCounts : TankKind → ℕ → Bool
 surfaceCounts ordinary fill = ltb 0 fill && ltb fill nominallyFull
 surfaceCounts cargo fill = ltb 0 fill
 
--- 'Free surface moment of a tank = 1000 x density x inertia if ..'
+-- The whole moment of a free surface: '1000 x density x inertia'.
 abbrev pub surfaceMoment : Tank → ℕ
 surfaceMoment t = 1000 * t .density * t .inertia
 
--- '.., else 0.'
+-- 'Free surface moment of a tank = 1000 x density x inertia if' it counts, 'else 0'.
 abbrev pub freeSurfaceOf : (k : Load) → Values k → ℕ
 freeSurfaceOf item v = 0
 freeSurfaceOf (tank k) v = cond (surfaceCounts k (v .fill)) (surfaceMoment v) 0

@@ -4,11 +4,14 @@ use mathlib.Core.List.{List, [], _∷_, _++_}
 use Prim.Native.String.{String}
 use Prim.Native.Nat.{ℕ}
 use Rattle.rules.specs.Blocks.{Tank, TankKind, ordinary, cargo, item, tank}
-use Rattle.rules.specs.Layout.{Entries, end, leaf}
+use Rattle.rules.specs.Layout.{Entries, end, leaf, group, frames, spellText}
 use Rattle.rules.specs.Outcome.{got}
 use Rattle.rules.specs.Walk.{read}
 use Rattle.rules.specs.Loading.{flat, total, displacement, correctedKG}
+use Rattle.rules.specs.Cargo.{MadeCargo, here, afterEntry, inGroup, RetaggedLines}
 use Rattle.rules.specs.Answer.{answered, reportOf}
+use Rattle.rules.proofs.walk.WholeText.{sound}
+use Rattle.rules.proofs.walk.Retagged.{frames-retagged}
 use Rattle.rules.proofs.bench.Cases.{Case, judges, All, lines, broken}
 use Rattle.rules.proofs.bench.Bench.{ship, row1, row2, P1-output}
 use Rattle.rules.proofs.bench.Regrouped.{loadedSo}
@@ -42,3 +45,16 @@ planner = judges (tanker "C3") P1-output ∷ judges (tanker "C5") cargo-output �
 pub planner-holds : All planner
 unfolding answered reportOf
 planner-holds = (refl, (refl, tt))
+
+-- The two loads, and the two texts' lines, differ in that tank's kind and tag alone; and so do loads with a tank four groups deep.
+pub planner-made : MadeCargo theTank (tankLoad ordinary) (tankLoad cargo)
+planner-made = afterEntry item (record { mass = 700_000; centre = 3_100 }) (here end)
+
+pub planner-retagged : RetaggedLines (frames (loadedSo (tankLoad ordinary))) (frames (loadedSo (tankLoad cargo))) × (spellText (loadedSo (tankLoad ordinary)) ≡ tanker "C3") × (spellText (loadedSo (tankLoad cargo)) ≡ tanker "C5")
+planner-retagged = (frames-retagged (loadedSo (tankLoad ordinary)) (tankLoad cargo) planner-made, sound (tanker "C3") _ (tanker-reads .0) .1, sound (tanker "C5") _ (tanker-reads .1) .1)
+
+abbrev deep : TankKind → Entries
+deep k = group (group (group (group (leaf (tank k) theTank end) end) end) end) end
+
+pub deep-made : MadeCargo theTank (deep ordinary) (deep cargo)
+deep-made = inGroup end (inGroup end (inGroup end (inGroup end (here end))))

@@ -64,7 +64,8 @@ tankOf m f = record { mass = m; centre = 0; fill = f; density = 1_000; inertia =
 -- 'Fill 0 only with mass 0', in both kinds.
 pub fill-rule : (k : TankKind) → (ok (entry (tank k)) (tankOf 0 0) ≡ true) × (ok (entry (tank k)) (tankOf 1 0) ≡ false) × (ok (entry (tank k)) (tankOf 1 1) ≡ true)
 unfolding ok within
-fill-rule k = (refl, refl, refl)
+fill-rule ordinary = (refl, refl, refl)
+fill-rule cargo = (refl, refl, refl)
 
 -- '1000 x density x inertia if 0 < fill < 980, else 0.'
 pub free-surface : map (λ f. freeSurfaceOf (tank ordinary) (tankOf 0 f)) (0 ∷ 1 ∷ 979 ∷ 980 ∷ 1_000 ∷ []) ≡ 0 ∷ 1000 * 1_000 * 7 ∷ 1000 * 1_000 * 7 ∷ 0 ∷ 0 ∷ []

@@ -43,12 +43,13 @@ Bytes-entries (group g r) G l =
     Bytes-append (block groupTag (spell g)) (spell r) (Bytes-block groupTag (spell g) (omega arith) (omega arith) (Bytes-entries g (G .1) (omega arith))) (Bytes-entries r (G .2) (omega arith))
 
 -- ---- one block
-abbrev code : Tag → ℕ
+-- The tag that stands for each.
+abbrev pub code : Tag → ℕ
 code (load k) = entry k .tag
 code nested = groupTag
 
 module _ (ln : ℕ) where
-  tagOf-got : (at : ℕ) (x : Tag) → tagOf ln at (code x) ≡ got x
+  pub tagOf-got : (at : ℕ) (x : Tag) → tagOf ln at (code x) ≡ got x
   unfolding tagOf
   tagOf-got at (load item) = refl
   tagOf-got at (load (tank ordinary)) = refl

@@ -29,7 +29,7 @@ frame-sound ln l h B e z =
     let n : h .rest ≡ [] = nil-of-length (h .rest) (eqb-true (length (h .rest)) 0 z) in
     (sym (append-nil (block (h .tag) (h .body))) ∙ ap (block (h .tag) (h .body) ++_) (sym n) ∙ s .0, s .1)
 
-frame-got : (ln t : ℕ) (body : List ℕ) → length body < 65_536 → header ln 0 (block t body) ≡ got (record { tag = t; body = body; rest = [] })
+pub frame-got : (ln t : ℕ) (body : List ℕ) → length body < 65_536 → header ln 0 (block t body) ≡ got (record { tag = t; body = body; rest = [] })
 frame-got ln t body l = ap (header ln 0) (sym (append-nil (block t body))) ∙ header-got ln 0 t body [] l
 
 fixedIn-sound : {A : Type 0} (ln : ℕ) (L : Layout A) (W : Lawful L) (l : List ℕ) (h : Head) (a : A) → Bytes l → header ln 0 l ≡ got h → fixedIn ln L h ≡ got a
