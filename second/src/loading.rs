@@ -28,8 +28,11 @@ pub fn sums(entries: &[Entry]) -> (i128, i128) {
     entries.iter().fold((0, 0), |(mass, moment), entry| {
         let (more_mass, more_moment) = match entry {
             Entry::Item(weight) => counted(weight, 0),
-            Entry::Tank(weight, liquid) => counted(weight, of_tank(liquid)),
-            Entry::Cargo(weight, liquid) => counted(weight, of_cargo_tank(liquid)),
+            Entry::Tank(weight, liquid) => {
+                let counts = liquid.fill > 0 && liquid.fill < NOMINALLY_FULL;
+                counted(weight, free_surface(liquid, counts))
+            }
+            Entry::Cargo(weight, liquid) => counted(weight, free_surface(liquid, liquid.fill > 0)),
             Entry::Group(inner) => sums(inner),
         };
         (mass + more_mass, moment + more_moment)
@@ -40,18 +43,9 @@ fn counted(weight: &Weight, surface: i128) -> (i128, i128) {
     (weight.mass, weight.mass * weight.centre + surface)
 }
 
-/// The free surface moment of a tank: none from where it is nominally full.
-fn of_tank(liquid: &Liquid) -> i128 {
-    if liquid.fill < NOMINALLY_FULL {
-        of_cargo_tank(liquid)
-    } else {
-        0
-    }
-}
-
-/// The free surface moment of a cargo tank: at every fill but 0.
-fn of_cargo_tank(liquid: &Liquid) -> i128 {
-    if liquid.fill > 0 {
+/// The free surface moment of a liquid, where it counts.
+fn free_surface(liquid: &Liquid, counts: bool) -> i128 {
+    if counts {
         1_000 * liquid.density * liquid.inertia
     } else {
         0
