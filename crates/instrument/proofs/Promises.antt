@@ -1,5 +1,5 @@
 -- What is promised of the instrument, to be read without the proofs: each promise is one theorem with a sentence above it, and its proof stands elsewhere.
--- All are stated of `judge` through its contract, which `judge` is proved to meet (proofs/judge). Their words are defined in the rules' specs/: Answer, Report and Columns (what is answered, its 209 characters, and where each number stands among them), Layout (which texts are allowed), Walk (the reading), Places (where a refusal stands), Leaves and Loading (sums, masses and KG); and in specs/Faults (1 and 2) and Outside (7 and 8).
+-- All are stated of `judge` through its contract, which `judge` is proved to meet (proofs/judge). Their words are defined in the rules' specs/: Answer, Report and Columns (what is answered, its 209 characters, and where each number stands among them), Layout (which texts are allowed), Walk (the reading), Places (where a refusal stands), Leaves and Loading (sums, masses and KG), Cargo (two texts that differ in one tag alone); and in specs/Faults (1 and 2) and Outside (7 and 8).
 use mathlib.Core.Path.{_≡_, refl, sym, _∙_}
 use mathlib.Core.Logic.{_↔_, _≢_, _⊎_, ⊎-elim}
 use mathlib.Core.List.{List, []}
