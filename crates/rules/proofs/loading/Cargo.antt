@@ -18,14 +18,13 @@ use Rattle.rules.proofs.layout.Lines.{length-hex}
 use Rattle.rules.proofs.walk.Entries.{length-leaf, length-group}
 
 -- ---- one tank
--- From fill 1 on a cargo tank has its whole moment.
-pub cargo-moment : (t : Tank) → 0 < t .fill → freeSurfaceOf (tank cargo) t ≡ 1000 * t .density * t .inertia
-cargo-moment t h = rw (lt-ltb 0 (t .fill) h)
-
--- At fill 0 neither kind has any; from 1 to 979 a C3 has its whole moment.
+-- At fill 0 neither kind has any; from fill 1 on a cargo tank has its whole moment, and a C3 up to 979.
 pub empty-none : (k : TankKind) (t : Tank) → t .fill ≡ 0 → freeSurfaceOf (tank k) t ≡ 0
 empty-none ordinary t h = rw h
 empty-none cargo t h = rw h
+
+pub cargo-moment : (t : Tank) → 0 < t .fill → freeSurfaceOf (tank cargo) t ≡ 1000 * t .density * t .inertia
+cargo-moment t h = rw (lt-ltb 0 (t .fill) h)
 
 pub slack-moment : (t : Tank) → 0 < t .fill → t .fill < nominallyFull → freeSurfaceOf (tank ordinary) t ≡ 1000 * t .density * t .inertia
 slack-moment t h l = rw (lt-ltb 0 (t .fill) h, lt-ltb (t .fill) nominallyFull l)
