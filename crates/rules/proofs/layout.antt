@@ -1,4 +1,4 @@
--- Numbers in bytes, fields, characters and lines, places: laws of specs/Numbers, Text, Blocks, Layout, Parts and Places, and 01's limits restated.
+-- Numbers in bytes, fields, characters and lines, places: laws of specs/Numbers, Text, Blocks, Layout, Parts, Places and Cargo, and 01's limits restated.
 pub mod Numbers
 pub mod Fields
 pub mod Lines
@@ -7,3 +7,4 @@ pub mod Parts
 pub mod Edges
 pub mod Counts
 pub mod InsideParent
+pub mod Retagged

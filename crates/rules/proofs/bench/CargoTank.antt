@@ -11,7 +11,7 @@ use Rattle.rules.specs.Loading.{flat, total, displacement, correctedKG}
 use Rattle.rules.specs.Cargo.{MadeCargo, here, afterEntry, inGroup, RetaggedLines}
 use Rattle.rules.specs.Answer.{answered, reportOf}
 use Rattle.rules.proofs.walk.WholeText.{sound}
-use Rattle.rules.proofs.walk.Retagged.{frames-retagged}
+use Rattle.rules.proofs.layout.Retagged.{frames-retagged}
 use Rattle.rules.proofs.bench.Cases.{Case, judges, All, lines, broken}
 use Rattle.rules.proofs.bench.Bench.{ship, row1, row2, P1-output}
 use Rattle.rules.proofs.bench.Regrouped.{loadedSo}

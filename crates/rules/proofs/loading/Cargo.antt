@@ -2,20 +2,17 @@
 use mathlib.Core.Path.{_≡_, refl, sym, _∙_}
 use mathlib.Core.Logic.{_↔_}
 use mathlib.Core.Bool.{Bool, true, false, cond, _&&_}
-use mathlib.Core.List.{List, [], _∷_}
 use Prim.Native.Nat.{ℕ, _+_, _*_, _≤_, _<_}
 use native.Mathlib.Omega.{arith}
 use lib.Dec.{ltb}
 use lib.ListN.{length, length-append}
 use borrow.Author.Tests.{lt-ltb, le-ltb}
-use Rattle.rules.specs.Text.{text}
-use Rattle.rules.specs.Blocks.{block, ok, Row, Tank, TankKind, ordinary, cargo, tank, entry}
-use Rattle.rules.specs.Layout.{Entries, spell, Condition, spellCondition, rowFrames, frames, spellText, Reading, leaves, depth, some, Good, Limits}
+use Rattle.rules.specs.Blocks.{ok, Tank, TankKind, ordinary, cargo, tank, entry}
+use Rattle.rules.specs.Layout.{Entries, spell, spellCondition, frames, spellText, Reading, leaves, depth, some, Good, Limits}
 use Rattle.rules.specs.Loading.{Entry, mass, moment, nominallyFull, surfaceMoment, freeSurfaceOf, freeSurface}
 use Rattle.rules.specs.Leaves.{sumLeaves, loadedWith}
 use Rattle.rules.specs.Cargo.{MadeCargo, here, afterEntry, afterGroup, inGroup}
-use Rattle.rules.proofs.layout.Lines.{length-hex}
-use Rattle.rules.proofs.walk.Entries.{length-leaf, length-group}
+use Rattle.rules.proofs.layout.Retagged.{same-length, as-many-characters, spell-retagged, frames-retagged}
 
 -- ---- one tank
 -- At fill 0 neither kind has any; from fill 1 on a cargo tank has its whole moment, and a C3 up to 979.
@@ -49,12 +46,11 @@ unfolding ok
 ok-alike t = refl
 
 -- ---- a load with one tank made a cargo tank
--- As many leaves, as deep, some where there were some, and as long.
+-- As many leaves, as deep, and some where there were some.
 record SameShape (F G : Entries) : Type 0 where
   many : leaves F ≡ leaves G
   deep : depth F ≡ depth G
   any : some F ≡ some G
-  long : length (spell F) ≡ length (spell G)
 
 module _ {t : Tank} where
   -- A sum over the leaves differs by what the tank adds as the one and as the other.
@@ -79,16 +75,10 @@ module _ {t : Tank} where
 
   same-shape : {F G : Entries} → MadeCargo t F G → SameShape F G
   unfolding leaves depth some
-  same-shape (here r) = record { many = refl; deep = refl; any = refl; long = length-leaf (tank ordinary) t r ∙ sym (length-leaf (tank cargo) t r) }
-  same-shape (afterEntry k v {r} {r′} m) =
-      let a = same-shape m in
-      record { many = omega (arith, a .many); deep = a .deep; any = refl; long = omega (arith, a .long, length-leaf k v r, length-leaf k v r′) }
-  same-shape (afterGroup g {r} {r′} m) =
-      let a = same-shape m in
-      record { many = omega (arith, a .many); deep = omega (arith, a .deep); any = refl; long = omega (arith, a .long, length-group g r, length-group g r′) }
-  same-shape (inGroup {g} {g′} r m) =
-      let a = same-shape m in
-      record { many = omega (arith, a .many); deep = omega (arith, a .deep); any = refl; long = omega (arith, a .long, length-group g r, length-group g′ r) }
+  same-shape (here r) = record { many = refl; deep = refl; any = refl }
+  same-shape (afterEntry k v m) = let a = same-shape m in record { many = omega (arith, a .many); deep = a .deep; any = refl }
+  same-shape (afterGroup g m) = let a = same-shape m in record { many = omega (arith, a .many); deep = omega (arith, a .deep); any = refl }
+  same-shape (inGroup r m) = let a = same-shape m in record { many = omega (arith, a .many); deep = omega (arith, a .deep); any = refl }
 
   pub as-many : {F G : Entries} → MadeCargo t F G → leaves F ≡ leaves G
   as-many m = same-shape m .many
@@ -102,20 +92,11 @@ module _ {t : Tank} where
   good-alike (inGroup r m) = let a = good-alike m in let s = same-shape m .any in (λ x. (sym s ∙ x .0, a .0 (x .1), x .2), λ x. (s ∙ x .0, a .1 (x .1), x .2))
 
 -- ---- a reading with such a load
--- Lines whose conditions are as long have as many characters.
-length-lines : (vs : List Row) (c d : Condition) → length (spellCondition c) ≡ length (spellCondition d) → length (text (rowFrames vs c)) ≡ length (text (rowFrames vs d))
-unfolding rowFrames text block
-length-lines [] c d e = simp (length-append, length-hex) (omega (arith, e))
-length-lines (v ∷ vs) c d e = simp (length-append, length-hex) (omega (arith, length-lines vs c d e))
-
-length-text : (r : Reading) (G : Entries) → length (spellCondition (r .condition)) ≡ length (spellCondition (loadedWith r G .condition)) → length (spellText r) ≡ length (spellText (loadedWith r G))
-unfolding spellText frames text
-length-text r G e = simp length-append (omega (arith, length-lines (r .rows) (r .condition) (loadedWith r G .condition) e))
-
-limits-kept : (r : Reading) (G : Entries) → SameShape (r .condition .load) G → (Good (r .condition .load) → Good G) → Limits r → Limits (loadedWith r G)
+-- Of the same shape and as long, it is within the limits if it was.
+limits-kept : (r : Reading) (G : Entries) → SameShape (r .condition .load) G → (Good (r .condition .load) → Good G) → length (spell (r .condition .load)) ≡ length (spell G) → length (spellText r) ≡ length (spellText (loadedWith r G)) → Limits r → Limits (loadedWith r G)
 unfolding spellCondition
-limits-kept r G a good l =
-    let e : length (spellCondition (r .condition)) ≡ length (spellCondition (loadedWith r G .condition)) = simp length-append (omega (arith, a .long)) in
+limits-kept r G a good e f l =
+    let c : length (spellCondition (r .condition)) ≡ length (spellCondition (loadedWith r G .condition)) = simp length-append (omega (arith, e)) in
     let L = l .loaded in
     record {
       hull = l .hull;
@@ -128,13 +109,16 @@ limits-kept r G a good l =
         any = sym (a .any) ∙ L .any;
         deep = omega (arith, a .deep, L .deep);
         many = omega (arith, a .many, L .many);
-        long = omega (arith, e, L .long);
+        long = omega (arith, c, L .long);
       };
-      long = omega (arith, length-text r G e, l .long);
+      long = omega (arith, f, l .long);
     }
 
 pub limits-alike : {t : Tank} (r : Reading) (G : Entries) → MadeCargo t (r .condition .load) G → Limits r ↔ Limits (loadedWith r G)
+unfolding spellText
 limits-alike r G m =
     let a = same-shape m in
-    let back : SameShape G (r .condition .load) = record { many = sym (a .many); deep = sym (a .deep); any = sym (a .any); long = sym (a .long) } in
-    (limits-kept r G a (good-alike m .0), limits-kept (loadedWith r G) (r .condition .load) back (good-alike m .1))
+    let back : SameShape G (r .condition .load) = record { many = sym (a .many); deep = sym (a .deep); any = sym (a .any) } in
+    let e = same-length (spell-retagged m) in
+    let f = as-many-characters (frames-retagged r G m) in
+    (limits-kept r G a (good-alike m .0) e f, limits-kept (loadedWith r G) (r .condition .load) back (good-alike m .1) (sym e) (sym f))

@@ -21,6 +21,10 @@ pub length-block : (t : ℕ) (body rest : List ℕ) → length (block t body ++ 
 unfolding block
 length-block t body rest = let l : length (body ++ rest) ≡ length body + length rest = length-append body rest in omega arith
 
+pub length-alone : (t : ℕ) (body : List ℕ) → length (block t body) ≡ 3 + length body
+unfolding block
+length-alone t body = omega arith
+
 pub full-block : (t : ℕ) (body rest : List ℕ) → full (block t body ++ rest) ≡ true
 unfolding block
 full-block t body rest = refl

@@ -15,7 +15,7 @@ use Rattle.rules.specs.Outcome.{Ans, refused, got}
 use Rattle.rules.specs.Walk.{Head, header, Block, one, nest, Walk, step, walk, entries, loadAt, inside, conditionIn, shipFrame, Frame, aRow, aCondition, Found, tableRow, theCondition, found, frameAt, closed, after, tail, readFrames, read}
 use Rattle.rules.specs.Met.{Passed, Meets, behind, nestedIn, Led, behindRows, lead, Met, shipsFrame, frame, frameBehind, weatherBlock, entryBlock, Overruns}
 use Rattle.rules.proofs.layout.Parts.{full-length}
-use Rattle.rules.proofs.walk.Heads.{header-sound}
+use Rattle.rules.proofs.walk.Heads.{length-alone, header-sound}
 use Rattle.rules.proofs.walk.Entries.{Sound, BlockSpelled, block-sound, walk-sound, full-spell}
 use Rattle.rules.proofs.walk.Conditions.{weather-sound}
 use Rattle.rules.proofs.walk.Frames.{code, frame-sound, frameOf-sound, FrameSpelled, frameAt-sound, ship-sound}
@@ -58,10 +58,6 @@ module _ {d n n′ at at′ : ℕ} where
   past-group g a G z u w (nestedIn F body rest P h m) =
       let M = length-append (block groupTag (spell g)) (spell F) in
       nested-is (group g F) body rest (record { good = (a, G .good, P .good); deep = omega (arith, G .deep, P .deep); many = omega (arith, G .many, P .many) }) h (omega arith) (omega arith) (append-assoc (block groupTag (spell g)) (spell F) (block groupTag body ++ rest)) m
-
-length-alone : (t : ℕ) (body : List ℕ) → length (block t body) ≡ 3 + length body
-unfolding block
-length-alone t body = omega arith
 
 module _ (ln : ℕ) where
   -- At this line a block is met that overruns.

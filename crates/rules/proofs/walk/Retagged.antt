@@ -2,36 +2,32 @@
 use mathlib.Core.Path.{_≡_, refl, ap, ap₂, sym, _∙_}
 use mathlib.Core.Logic.{_↔_}
 use mathlib.Core.Bool.{Bool, true, false}
-use mathlib.Core.List.{List, [], _∷_, _++_, append-nil}
-use Prim.Native.Nat.{ℕ, suc, _+_, _-_, _*_, _≤_, _<_}
+use mathlib.Core.List.{List, [], _∷_, _++_}
+use Prim.Native.Nat.{ℕ, _+_, _-_, _≤_, _<_}
 use native.Mathlib.Omega.{arith}
-use lib.ListN.{length, length-append, take, drop}
+use lib.ListN.{length, take, drop}
 use lib.Dec.{ltb, leb, eqb}
-use Rattle.rules.specs.Numbers.{num, digits, Bytes, full}
+use Rattle.rules.specs.Numbers.{num, Bytes, full}
 use Rattle.rules.specs.Text.{text, Lines}
-use Rattle.rules.specs.Blocks.{block, spellValues, ok, spellBlock, ship, Row, row, conditionTag, Weather, weather, Tank, TankKind, ordinary, cargo, tankTag, tank, entry, groupTag}
-use Rattle.rules.specs.Layout.{Entries, spell, Condition, spellCondition, rowFrames, Reading, frames, spellText, leaves, fewestRows, mostDepth, mostEntries, mostBytes, mostCharacters}
+use Rattle.rules.specs.Blocks.{block, ok, ship, conditionTag, weather, Tank, TankKind, ordinary, cargo, tankTag, tank, entry, groupTag}
+use Rattle.rules.specs.Layout.{Entries, Condition, Reading, frames, spellText, leaves, fewestRows, mostDepth, mostEntries, mostBytes, mostCharacters}
 use Rattle.rules.specs.Outcome.{Ans, refused, got, test, _>>=_, _>>_}
 use Rattle.rules.specs.Walk.{Head, header, fixed, tagOf, Block, one, nest, begun, blockAt, step, entries, weatherAt, loadAt, inside, conditionIn, fixedIn, frameOf, Found, tableRow, theCondition, found, frameAt, closed, Tail, after, tail, shipFrame, readFrames, read}
 use Rattle.rules.specs.Leaves.{loadedWith}
 use Rattle.rules.specs.Cargo.{MadeCargo, here, afterEntry, afterGroup, inGroup, Retagged, tagHere, afterBlock, insideGroup, RetaggedLines, asFrame, inCondition, afterLine}
-use Rattle.rules.proofs.layout.Numbers.{Bytes-append}
-use Rattle.rules.proofs.layout.Lines.{length-hex, lines-sound}
+use Rattle.rules.proofs.layout.Lines.{lines-sound}
 use Rattle.rules.proofs.walk.Outcome.{refused-got, bind-got, bind-refused, test-got, test-refused}
-use Rattle.rules.proofs.walk.Heads.{length-block, full-block, Bytes-block, header-got}
+use Rattle.rules.proofs.walk.Heads.{length-block, full-block, header-got}
 use Rattle.rules.proofs.walk.Frames.{frame-got}
 use Rattle.rules.proofs.walk.WholeText.{read-lines, sound, lines-of-reading}
 use Rattle.rules.proofs.walk.Fuel.{entries-some, entries-block}
+use Rattle.rules.proofs.layout.Retagged.{same-length, both-full, text-long, body-short, as-many-characters, Lines-alike, frames-retagged}
 use Rattle.rules.proofs.loading.Cargo.{as-many}
 
 -- Two answers with the same refusal, or with values that are so related.
 data Like {A : Type 0} (R : A → A → Type 0) : Ans A → Ans A → Type 0 where
   bothRefused : {n l o : ℕ} → Like R (refused n l o) (refused n l o)
   bothGot : {a b : A} → R a b → Like R (got a) (got b)
-
-like-same : {A : Type 0} (a : Ans A) → Like _≡_ a a
-like-same (refused n l o) = bothRefused
-like-same (got x) = bothGot refl
 
 like-bind : {A B : Type 0} {R : A → A → Type 0} {S : B → B → Type 0} {a b : Ans A} (f g : A → Ans B) → Like R a b → ((x y : A) → R x y → Like S (f x) (g y)) → Like S (a >>= f) (b >>= g)
 unfolding _>>=_
@@ -100,17 +96,6 @@ module _ (ln d n at : ℕ) where
   tank-alike s =
       rw (entries-some ln d n at (0xC3 ∷ s) (omega arith), entries-some ln d n at (0xC5 ∷ s) (omega arith))
       (like-bind _ _ (head-alike ln at s) (λ h g e. rw (e .1, e .2) (like-bind _ _ (block-alike (e .0 .body)) (step-alike (e .0)))))
-
--- As long, and something in both.
-same-length : {s s′ : List ℕ} → Retagged s s′ → length s ≡ length s′
-same-length (tagHere left) = refl
-same-length (afterBlock tag body {rest} {rest′} m) = omega (arith, same-length m, length-block tag body rest, length-block tag body rest′)
-same-length (insideGroup {body} {body′} rest m) = omega (arith, same-length m, length-block groupTag body rest, length-block groupTag body′ rest)
-
-both-full : {s s′ : List ℕ} → Retagged s s′ → (full s ≡ true) × (full s′ ≡ true)
-both-full (tagHere left) = (refl, refl)
-both-full (afterBlock tag body {rest} {rest′} m) = (full-block tag body rest, full-block tag body rest′)
-both-full (insideGroup {body} {body′} rest m) = (full-block groupTag body rest, full-block groupTag body′ rest)
 
 module _ (ln : ℕ) where
   -- Behind the same block.
@@ -216,17 +201,6 @@ frame-alike {body} {body′} m l ln k p =
     (like-then (test (leb fewestRows k) 4 ln 0) _ _ (λ u.
     like-bind _ _ (like-then (test (leb (length body′) mostBytes) 5 ln 0) _ _ (λ v. inside-alike ln m l)) (λ c d q. bothGot (c, d, refl, refl, q))))
 
--- A line is no longer than its text, and what a frame holds no longer than its line.
-text-long : (line : List ℕ) (ls : List (List ℕ)) → length (text (line ∷ ls)) ≡ 2 * length line + suc (length (text ls))
-unfolding text
-text-long line ls = simp (length-append, length-hex) refl
-
-body-long : (body : List ℕ) → length (block conditionTag body) ≡ 3 + length body
-body-long body = let e = ap length (append-nil (block conditionTag body)) in omega (arith, length-block conditionTag body [])
-
-body-short : (body : List ℕ) (ls : List (List ℕ)) → length (text (block conditionTag body ∷ ls)) < 65_536 → length body < 65_536
-body-short body ls l = omega (arith, text-long (block conditionTag body) ls, body-long body)
-
 -- Frames after a condition: 4 both times, behind the same 2.
 closed-alike : {ls ls′ : List (List ℕ)} → RetaggedLines ls ls′ → length (text ls) < 65_536 → (ln : ℕ) → Like Never (closed ln ls) (closed ln ls′)
 unfolding closed
@@ -275,44 +249,6 @@ frames-alike (inCondition {body} {body′} later m) l =
 frames-alike (afterLine line {ls} {ls′} m) l = let s = text-long line ls in like-then (shipFrame 1 line) _ _ (λ v. like-bind _ _ (tail-alike m (omega arith) 2 0 0) (λ x y q. bothGot (q .1 .0, q .1 .1, ap₂ (λ rows c. record { ship = v; rows = rows; condition = c }) (sym (q .0)) (q .1 .2))))
 
 -- ---- a whole text
-as-many-characters : {ls ls′ : List (List ℕ)} → RetaggedLines ls ls′ → length (text ls) ≡ length (text ls′)
-as-many-characters (asFrame left later) = omega (arith, text-long (0xC3 ∷ left) later, text-long (0xC5 ∷ left) later)
-as-many-characters (inCondition {body} {body′} later m) =
-    omega (arith, same-length m, body-long body, body-long body′, text-long (block conditionTag body) later, text-long (block conditionTag body′) later)
-as-many-characters (afterLine line {ls} {ls′} m) = omega (arith, text-long line ls, text-long line ls′, as-many-characters m)
-
--- Lines stay lines.
-Bytes-parts : (a b : List ℕ) → Bytes (a ++ b) → Bytes a × Bytes b
-unfolding Bytes
-Bytes-parts [] b h = (tt, h)
-Bytes-parts (x ∷ a) b h = let p = Bytes-parts a b (h .1) in ((h .0, p .0), p .1)
-
-Bytes-body : (t : ℕ) (body : List ℕ) → Bytes (block t body) → Bytes body
-unfolding Bytes block
-Bytes-body t body h = Bytes-parts (digits 2 (length body)) body (h .1) .1
-
-Bytes-alike : {s s′ : List ℕ} → Retagged s s′ → length s < 65_536 → Bytes s → Bytes s′
-unfolding Bytes
-Bytes-alike (tagHere left) l h = (omega arith, h .1)
-Bytes-alike (afterBlock tag body {rest} {rest′} m) l h =
-    let L = length-block tag body rest in
-    let p = Bytes-parts (block tag body) rest h in
-    Bytes-append (block tag body) rest′ (p .0) (Bytes-alike m (omega arith) (p .1))
-Bytes-alike (insideGroup {body} {body′} rest m) l h =
-    let L = length-block groupTag body rest in
-    let e = same-length m in
-    let p = Bytes-parts (block groupTag body) rest h in
-    Bytes-append (block groupTag body′) rest (Bytes-block groupTag body′ (omega arith) (omega arith) (Bytes-alike m (omega arith) (Bytes-body groupTag body (p .0)))) (p .1)
-
-Lines-alike : {ls ls′ : List (List ℕ)} → RetaggedLines ls ls′ → length (text ls) < 65_536 → Lines ls → Lines ls′
-unfolding Lines Bytes block
-Lines-alike (asFrame left later) l h = (refl, (omega arith, h .1 .1), h .2)
-Lines-alike (inCondition {body} {body′} later m) l h =
-    let s = body-short body later l in
-    let e = same-length m in
-    (refl, Bytes-block conditionTag body′ (omega arith) (omega arith) (Bytes-alike m s (Bytes-body conditionTag body (h .1))), h .2)
-Lines-alike (afterLine line {ls} {ls′} m) l h = let s = text-long line ls in (h .0, h .1, Lines-alike m (omega arith) (h .2))
-
 -- So the two texts are refused alike, or both are read.
 module _ {ls ls′ : List (List ℕ)} (m : RetaggedLines ls ls′) (B : Lines ls) (l : length (text ls) ≤ mostCharacters) where
   read-alike : Like Readings (read (text ls)) (read (text ls′))
@@ -332,23 +268,7 @@ module _ {ls ls′ : List (List ℕ)} (m : RetaggedLines ls ls′) (B : Lines ls
       go bothRefused e = refused-got e
       go (bothGot {a} {b} q) e = let z : a ≡ r = cc in rw (← z) (q .1 .0, q .0, q .1 .1, ap got (q .2))
 
--- ---- every tank
-spell-retagged : {t : Tank} {F G : Entries} → MadeCargo t F G → Retagged (spell F) (spell G)
-unfolding spell spellBlock block
-spell-retagged (here r) = tagHere _
-spell-retagged (afterEntry k v m) = afterBlock (entry k .tag) (spellValues (entry k .fields) (entry k .listed v)) (spell-retagged m)
-spell-retagged (afterGroup g m) = afterBlock groupTag (spell g) (spell-retagged m)
-spell-retagged (inGroup r m) = insideGroup (spell r) (spell-retagged m)
-
-rows-retagged : {t : Tank} (vs : List Row) (w : Weather) {F G : Entries} → MadeCargo t F G → RetaggedLines (rowFrames vs (record { weather = w; load = F })) (rowFrames vs (record { weather = w; load = G }))
-unfolding rowFrames spellCondition spellBlock
-rows-retagged [] w m = inCondition [] (afterBlock (weather .tag) (spellValues (weather .fields) (weather .listed w)) (spell-retagged m))
-rows-retagged (v ∷ vs) w m = afterLine (spellBlock row v) (rows-retagged vs w m)
-
-pub frames-retagged : {t : Tank} (r : Reading) (G : Entries) → MadeCargo t (r .condition .load) G → RetaggedLines (frames r) (frames (loadedWith r G))
-unfolding frames
-frames-retagged r G m = afterLine (spellBlock ship (r .ship)) (rows-retagged (r .rows) (r .condition .weather) m)
-
+-- ---- every tank of a text that is read
 pub retagged-lines : {t : Tank} (s : List ℕ) (r : Reading) → read s ≡ got r → (G : Entries) → MadeCargo t (r .condition .load) G
     → RetaggedLines (frames r) (frames (loadedWith r G)) × Lines (frames r) × (text (frames r) ≡ s) × (length s ≤ mostCharacters)
 unfolding spellText
