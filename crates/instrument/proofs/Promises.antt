@@ -132,7 +132,7 @@ pub two-such-texts : (a : Allowed P1) × (a′ : Allowed regrouped) × SameSums 
 two-such-texts = (replies.allowed P1 asOne (reads-as .0), replies.allowed regrouped asGroup (reads-as .1), same-sums, two-texts)
 
 -- ---- cargo tanks
--- Two texts of lines within 12,000 characters, each with room, that differ in one tag alone: a block that begins with C3 in the first, well or ill and wherever it stands, begins with C5 in the second.
+-- Two texts of lines within 12,000 characters, each with room, that differ in one tag alone: a block that begins with C3 in the first, well or ill, as a frame or in a condition that fills its line, begins with C5 in the second.
 module _ (ls ls′ : List (List ℕ)) (retagged : RetaggedLines ls ls′) (L : Lines ls) (short : length (text ls) ≤ mostCharacters)
     (before before′ : List ℕ) (n n′ : ℕ) (after after′ : List ℕ) (run : Judges (text ls) before n after) (run′ : Judges (text ls′) before′ n′ after′) (room : reportLength ≤ length before) (room′ : reportLength ≤ length before′) where
   -- A C5 is tested as a C3: where either is refused with one of 1 to 6, both have the same number and the same report, and so the same place.

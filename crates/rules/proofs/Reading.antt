@@ -90,7 +90,7 @@ pub kind-decides-surface : (t : Tank) (F G : Entries) → MadeCargo t F G → (s
     × (sumLeaves freeSurface F + freeSurfaceOf (tank cargo) t ≡ sumLeaves freeSurface G + freeSurfaceOf (tank ordinary) t)
 kind-decides-surface t F G made = sums-made-cargo made
 
--- A C5 is tested as a C3. Take a text of lines within 12,000 characters and any block in it that begins with C3, well or ill, whatever stands before it and behind it: a frame, the first block of a condition, or one behind it, in groups or not. Let it begin with C5:
+-- A C5 is tested as a C3. Take a text of lines within 12,000 characters and a block in it that begins with C3: a frame, the first block of a condition that fills its line, or one further on where blocks stand end to end, in groups or not. It may be well or ill, and so may what stands before it and behind it. Let it begin with C5:
 -- the one text is refused exactly when the other is, with the same number, line and offset.
 pub tested-as-tank : (ls ls′ : List (List ℕ)) → RetaggedLines ls ls′ → Lines ls → length (text ls) ≤ mostCharacters → (n l o : ℕ) → (read (text ls) ≡ refused n l o) ↔ (read (text ls′) ≡ refused n l o)
 tested-as-tank ls ls′ retagged L h = refused-alike retagged L h

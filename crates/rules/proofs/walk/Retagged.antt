@@ -7,7 +7,7 @@ use Prim.Native.Nat.{ℕ, _+_, _-_, _≤_, _<_}
 use native.Mathlib.Omega.{arith}
 use lib.ListN.{length, take, drop}
 use lib.Dec.{ltb, leb, eqb}
-use Rattle.rules.specs.Numbers.{num, Bytes, full}
+use Rattle.rules.specs.Numbers.{num, full}
 use Rattle.rules.specs.Text.{text, Lines}
 use Rattle.rules.specs.Blocks.{block, ok, ship, conditionTag, weather, Tank, TankKind, ordinary, cargo, tankTag, tank, entry, groupTag}
 use Rattle.rules.specs.Layout.{Entries, Condition, Reading, frames, spellText, leaves, fewestRows, mostDepth, mostEntries, mostBytes, mostCharacters}
