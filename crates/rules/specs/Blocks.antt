@@ -97,22 +97,42 @@ row = record {
 abbrev pub conditionTag : ℕ
 conditionTag = 0xA3
 
--- ---- C1 weather: wind area in 0.1 m², Z in mm, CB in 0.001, flooding and deck edge angles in tenths of a degree
-pub record Weather : Type 0 where
+-- ---- C1 weather, C6 weather with timber on deck (request 2): wind area in 0.1 m², Z in mm, CB in 0.001, flooding and deck edge angles in tenths of a degree
+pub record Sky : Type 0 where
   pub windArea : ℕ
   pub z : ℕ
   pub cb : ℕ
   pub flooding : ℕ
   pub deckEdge : ℕ
 
-abbrev pub weather : Layout Weather
-weather = record {
-  tag = 0xC1;
+-- The sets of criteria: the Code's, and request 2's for timber on deck.
+pub data Set : Type 0 where
+  code timber : Set
+
+abbrev pub setTag : Set → ℕ
+setTag code = 0xC1
+setTag timber = 0xC6
+
+-- 'A block C6, with C1's twelve bytes': the tag apart, one table for both.
+abbrev pub weather : Set → Layout Sky
+weather s = record {
+  tag = setTag s;
   fields = field 4 0 300_000 ∷ field 2 0 60_000 ∷ field 2 200 1_000 ∷ field 2 0 600 ∷ field 2 1 600 ∷ [];
   listed = λ w. w .windArea ∷ w .z ∷ w .cb ∷ w .flooding ∷ w .deckEdge ∷ [];
   named = λ v. record { windArea = getD v 0 0; z = getD v 1 0; cb = getD v 2 0; flooding = getD v 3 0; deckEdge = getD v 4 0 };
   further = no-more;
 }
+
+-- The weather of a condition: the set that its tag chooses, and its values.
+pub record Weather : Type 0 where
+  pub set : Set
+  pub sky : Sky
+
+abbrev pub okWeather : Weather → Bool
+okWeather w = ok (weather (w .set)) (w .sky)
+
+abbrev pub spellWeather : Weather → List ℕ
+spellWeather w = spellBlock (weather (w .set)) (w .sky)
 
 -- ---- C2 item: mass in kg, centre in mm
 pub record Item : Type 0 where

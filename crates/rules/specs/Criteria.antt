@@ -1,13 +1,17 @@
 -- 'The eight criteria', 1 to 7: each figure, each limit, each verdict.
-use mathlib.Core.Bool.{Bool, true, false, cond, _&&_}
+use mathlib.Core.Bool.{Bool, true, false, cond, not, _&&_, _||_}
+use mathlib.Core.List.{List, [], _∷_}
 use Prim.Native.Nat.{ℕ, _-_, _*_, min}
 use lib.Dec.{leb, ltb}
+use lib.ListN.{getD}
 use lib.IntN.{ℤ, pos, negsuc, subℕ}
 use lib.Signed.{leZ}
 use Rattle.rules.specs.Rounding.{ceil, firstIn, peak}
+use Rattle.rules.specs.Blocks.{Set, code, timber}
 use Rattle.rules.specs.Curve.{Loaded, y, E, area}
 
--- A set of criteria is its limits. Areas in y units: one metre-degree is 10^11, rounded up from 0.055, 0.03 and 0.09 m·rad.
+-- 'Each set of criteria has its own limits' (request 2). A set is one value: the limits of 1 to 7, from which angle 4 looks, whether the deck edge counts in 7, and which of the eight slots it uses. The limit of a slot that it does not use is 0.
+-- Areas in y units: one metre-degree is 10^11, rounded up from 0.055, 0.03 and 0.09 m·rad, timber's from 0.08.
 pub record Criteria : Type 0 where
   pub area1 : ℕ
   pub area2 : ℕ
@@ -16,10 +20,44 @@ pub record Criteria : Type 0 where
   pub angle : ℕ
   pub gm : ℕ
   pub heel : ℕ
+  pub from : ℕ
+  pub deck : Bool
+  pub used : List Bool
 
--- The Code's set.
-abbrev pub code : Criteria
-code = record { area1 = 315_126_800_000; area2 = 171_887_400_000; area3 = 515_662_100_000; lever = 1_000_000_000; angle = 250; gm = 150; heel = 160 }
+-- The Code's set; and timber's: 'slot 4 .. the greatest lever from 0 to E', 'deck edge ignored', 'slots 1, 2 and 5 .. unused'.
+abbrev pub limitsOf : Set → Criteria
+limitsOf code = record {
+  area1 = 315_126_800_000;
+  area2 = 171_887_400_000;
+  area3 = 515_662_100_000;
+  lever = 1_000_000_000;
+  angle = 250;
+  gm = 150;
+  heel = 160;
+  from = 300;
+  deck = true;
+  used = true ∷ true ∷ true ∷ true ∷ true ∷ true ∷ true ∷ true ∷ [];
+}
+limitsOf timber = record {
+  area1 = 0;
+  area2 = 0;
+  area3 = 458_366_300_000;
+  lever = 1_250_000_000;
+  angle = 0;
+  gm = 100;
+  heel = 160;
+  from = 0;
+  deck = false;
+  used = false ∷ false ∷ true ∷ true ∷ false ∷ true ∷ true ∷ true ∷ [];
+}
+
+-- The set that the weather of a loaded ship chose.
+abbrev pub set : Loaded → Criteria
+set c = limitsOf (c .weather .set)
+
+-- Whether it uses a slot, 1 to 8.
+abbrev pub uses : Loaded → ℕ → Bool
+uses c n = getD (set c .used) (n - 1) false
 
 -- 1. 'Area 0 to min(300, E).'
 unfoldable pub area1 : Loaded → ℤ
@@ -33,9 +71,9 @@ area2 c = area (y c) (pos 300) (pos (min 400 (E c)))
 unfoldable pub area3 : Loaded → ℤ
 area3 c = area (y c) (pos 0) (pos (min 400 (E c)))
 
--- 4. 'Greatest y from 300 to E .. If E < 300: fail, figure 0.'
+-- 4. 'Greatest y from 300 to E .. If E < 300: fail, figure 0'; timber's 'from 0 to E'.
 unfoldable pub greatestLever : Loaded → ℤ
-greatestLever c = elim (ltb (E c) 300) [ true ↦ pos 0 | false ↦ y c (pos (peak (λ t. y c (pos t)) 300 (E c - 300))) ]
+greatestLever c = elim (ltb (E c) (set c .from)) [ true ↦ pos 0 | false ↦ y c (pos (peak (λ t. y c (pos t)) (set c .from) (E c - set c .from))) ]
 
 -- 5. 'The first t in 0..E with the greatest y.'
 unfoldable pub angleOfGreatest : Loaded → ℕ
@@ -47,7 +85,7 @@ gm c = subℕ (c .km) (c .kg)
 
 -- 7. 'lw1 = 5040 x wind area x Z / (981 x W), rounded up, in mm; lw2 = 3 lw1 / 2, rounded up; either becomes y units times 5,000,000.'
 unfoldable pub lw1 : Loaded → ℕ
-lw1 c = ceil (5040 * c .weather .windArea * c .weather .z) (981 * c .w)
+lw1 c = ceil (5040 * c .weather .sky .windArea * c .weather .sky .z) (981 * c .w)
 
 unfoldable pub lw2 : Loaded → ℕ
 lw2 c = ceil (3 * lw1 c) 2
@@ -69,23 +107,23 @@ phi0Figure c = cond (leb (phi0 c) (E c)) (pos (phi0 c)) (negsuc 0)
 
 -- ---- the verdicts
 unfoldable pub passes1 : Loaded → Bool
-passes1 c = leZ (pos (code .area1)) (area1 c)
+passes1 c = leZ (pos (set c .area1)) (area1 c)
 
 unfoldable pub passes2 : Loaded → Bool
-passes2 c = leZ (pos (code .area2)) (area2 c)
+passes2 c = leZ (pos (set c .area2)) (area2 c)
 
 unfoldable pub passes3 : Loaded → Bool
-passes3 c = leZ (pos (code .area3)) (area3 c)
+passes3 c = leZ (pos (set c .area3)) (area3 c)
 
 unfoldable pub passes4 : Loaded → Bool
-passes4 c = leb 300 (E c) && leZ (pos (code .lever)) (greatestLever c)
+passes4 c = leb (set c .from) (E c) && leZ (pos (set c .lever)) (greatestLever c)
 
 unfoldable pub passes5 : Loaded → Bool
-passes5 c = leb (code .angle) (angleOfGreatest c)
+passes5 c = leb (set c .angle) (angleOfGreatest c)
 
 unfoldable pub passes6 : Loaded → Bool
-passes6 c = leZ (pos (code .gm)) (gm c)
+passes6 c = leZ (pos (set c .gm)) (gm c)
 
--- 'Pass: phi0 <= 160 and 10 phi0 <= 8 x deck edge. None: fail.'
+-- 'Pass: phi0 <= 160 and 10 phi0 <= 8 x deck edge. None: fail'; timber's 'deck edge ignored'.
 unfoldable pub passes7 : Loaded → Bool
-passes7 c = leb (phi0 c) (E c) && leb (phi0 c) (code .heel) && leb (10 * phi0 c) (8 * c .weather .deckEdge)
+passes7 c = leb (phi0 c) (E c) && leb (phi0 c) (set c .heel) && (not (set c .deck) || leb (10 * phi0 c) (8 * c .weather .sky .deckEdge))

@@ -61,7 +61,7 @@ y c = leverZ (c .kn) (c .kg)
 
 -- 'E = flooding angle. The curve ends there.'
 abbrev pub E : Loaded → ℕ
-E c = c .weather .flooding
+E c = c .weather .sky .flooding
 
 -- 'Area from p to q: sum of y(t) + y(t+1) for t from p to q-1; 0 if q <= p.'
 unfoldable pub area : (ℤ → ℤ) → ℤ → ℤ → ℤ

@@ -5,7 +5,7 @@ use mathlib.Core.List.{List, [], _∷_, _++_}
 use Prim.Native.Nat.{ℕ, suc, _+_, max, _≤_, _<_}
 use lib.ListN.{length}
 use Rattle.rules.specs.Text.{text}
-use Rattle.rules.specs.Blocks.{block, ok, spellBlock, Ship, ship, Row, row, conditionTag, Weather, weather, Load, Values, entry, groupTag}
+use Rattle.rules.specs.Blocks.{block, ok, spellBlock, Ship, ship, Row, row, conditionTag, Weather, okWeather, spellWeather, Load, Values, entry, groupTag}
 
 -- 'One or more of C2, C3, C4', and C5, 'allowed where C3 is' (request 1), side by side: none more; an item or a tank and those after it; a group and those after it.
 pub data Entries : Type 0 where
@@ -13,7 +13,7 @@ pub data Entries : Type 0 where
   leaf : (k : Load) → Values k → Entries → Entries
   group : Entries → Entries → Entries
 
--- A3: one C1, then the entries.
+-- A3: one C1, or a C6 'in C1's place' (request 2), then the entries.
 pub record Condition : Type 0 where
   pub weather : Weather
   pub load : Entries
@@ -31,7 +31,7 @@ spell (leaf k v r) = spellBlock (entry k) v ++ spell r
 spell (group g r) = block groupTag (spell g) ++ spell r
 
 unfoldable pub spellCondition : Condition → List ℕ
-spellCondition c = spellBlock weather (c .weather) ++ spell (c .load)
+spellCondition c = spellWeather (c .weather) ++ spell (c .load)
 
 -- 'Each line is one frame. A frame is one block.'
 unfoldable pub rowFrames : List Row → Condition → List (List ℕ)
@@ -91,7 +91,7 @@ abbrev pub mostCharacters : ℕ
 mostCharacters = 12_000
 
 pub record ConditionLimits (c : Condition) : Type 0 where
-  pub sky : ok weather (c .weather) ≡ true
+  pub sky : okWeather (c .weather) ≡ true
   pub good : Good (c .load)
   pub any : some (c .load) ≡ true
   pub deep : depth (c .load) ≤ mostDepth

@@ -8,7 +8,7 @@ use Prim.Native.Nat.{ℕ, _+_, _-_, _≤_, _<_}
 use lib.ListN.{length}
 use Rattle.rules.specs.Numbers.{Bytes, full}
 use Rattle.rules.specs.Text.{LF, hex, text, Lines}
-use Rattle.rules.specs.Blocks.{block, ok, spellBlock, Ship, ship, Row, row, conditionTag, Weather, weather, groupTag}
+use Rattle.rules.specs.Blocks.{block, ok, spellBlock, Ship, ship, Row, row, conditionTag, Weather, okWeather, spellWeather, groupTag}
 use Rattle.rules.specs.Layout.{Entries, Condition, spell, spellCondition, leaves, depth, Good, Rising, fewestRows, mostRows, mostDepth, mostEntries, mostBytes, ConditionLimits}
 use Rattle.rules.specs.Parts.{be2}
 
@@ -54,9 +54,9 @@ pub data Met : List (List ℕ) → ℕ → ℕ → List ℕ → Type 0 where
   weatherBlock : (s : Ship) (vs : List Row) (body : List ℕ) (later : List (List ℕ)) → Led s vs → fewestRows ≤ length vs → length body ≤ mostBytes
       → Met (lead s vs (block conditionTag body ∷ later)) (2 + length vs) 3 body
   -- a block behind the weather
-  entryBlock : (s : Ship) (vs : List Row) (w : Weather) (b : List ℕ) (later : List (List ℕ)) {o : ℕ} {left : List ℕ} → Led s vs → fewestRows ≤ length vs → ok weather w ≡ true
-      → length (spellBlock weather w ++ b) ≤ mostBytes → Meets mostDepth mostEntries (3 + length (spellBlock weather w)) b o left
-      → Met (lead s vs (block conditionTag (spellBlock weather w ++ b) ∷ later)) (2 + length vs) o left
+  entryBlock : (s : Ship) (vs : List Row) (w : Weather) (b : List ℕ) (later : List (List ℕ)) {o : ℕ} {left : List ℕ} → Led s vs → fewestRows ≤ length vs → okWeather w ≡ true
+      → length (spellWeather w ++ b) ≤ mostBytes → Meets mostDepth mostEntries (3 + length (spellWeather w)) b o left
+      → Met (lead s vs (block conditionTag (spellWeather w ++ b) ∷ later)) (2 + length vs) o left
 
 -- 'One or two bytes left where a block would begin, or a block's length runs past its parent': there are fewer than a head and the length ask for. (A byte that is not there counts 0.)
 abbrev pub Overruns : List ℕ → Type 0

@@ -30,7 +30,7 @@ FrameFills line = endOf line 0 ≡ length line
 pub record ConditionFills (line : List ℕ) (c : Condition) : Type 0 where
   pub frame : FrameFills line
   pub frameTag : getD line 0 0 ≡ conditionTag
-  pub weatherTag : getD line 3 0 ≡ weather .tag
+  pub weatherTag : getD line 3 0 ≡ weather (c .weather .set) .tag
   pub weatherInside : endOf line 3 ≤ length line
   pub load : Fills line (endOf line 3) (length line) (c .load)
 

@@ -2,7 +2,7 @@
 use mathlib.Core.Path.{_≡_}
 use mathlib.Core.Bool.{true}
 use Prim.Native.Nat.{_≤_}
-use Rattle.rules.specs.Blocks.{ok, ship, Row, row, weather}
+use Rattle.rules.specs.Blocks.{ok, ship, Row, row, okWeather}
 use Rattle.rules.specs.Loading.{greatestKG}
 use Rattle.rules.specs.Curve.{Loaded}
 
@@ -13,6 +13,6 @@ rowAt c = record { mass = c .w; draught = c .draught; km = c .km; kn = c .kn }
 -- Ship and weather are within their limits, what the table gives at W is within those of a row, and KG is no more than 8 allows.
 pub record Fair (c : Loaded) : Type 0 where
   pub hull : ok ship (c .ship) ≡ true
-  pub sky : ok weather (c .weather) ≡ true
+  pub sky : okWeather (c .weather) ≡ true
   pub form : ok row (rowAt c) ≡ true
   pub centre : c .kg ≤ greatestKG

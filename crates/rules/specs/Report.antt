@@ -12,22 +12,28 @@ use Rattle.rules.specs.Curve as curve
 use Rattle.rules.specs.Criteria as criteria
 use Rattle.rules.specs.Roll as roll
 use Rattle.rules.specs.Curve.{Loaded}
-use Rattle.rules.specs.Criteria.{area1, area2, area3, greatestLever, angleOfGreatest, gm, phi0, phi0Figure, passes1, passes2, passes3, passes4, passes5, passes6, passes7}
+use Rattle.rules.specs.Criteria.{area1, area2, area3, greatestLever, angleOfGreatest, gm, uses, phi0, phi0Figure, passes1, passes2, passes3, passes4, passes5, passes6, passes7}
 use Rattle.rules.specs.Roll.{phi1, net, notJudged, noGust, passes8}
 
--- '0 fail, 1 pass, 2 not judged, 3 refused.'
+-- '0 fail, 1 pass, 2 not judged, 3 refused'; '4, unused' (request 2).
 pub data Verdict : Type 0 where
-  fail pass unjudged void : Verdict
+  fail pass unjudged void unused : Verdict
 
 abbrev pub verdictNumber : Verdict → ℕ
 verdictNumber fail = 0
 verdictNumber pass = 1
 verdictNumber unjudged = 2
 verdictNumber void = 3
+verdictNumber unused = 4
 
 abbrev pub verdict : Bool → Verdict
 verdict true = pass
 verdict false = fail
+
+-- What a slot reads that the set uses, or does not.
+abbrev pub slot : Bool → Verdict → Verdict
+slot true v = v
+slot false v = unused
 
 -- 8, with its order of sentences.
 unfoldable pub verdict8 : Loaded → Verdict
@@ -45,7 +51,7 @@ pub record Judgement : Type 0 where
 unfoldable pub judgement : Loaded → Judgement
 unfolding rounding.onward rounding.table rounding.first rounding.firstIn rounding.greatest rounding.peak rounding.sumZ curve.lever curve.leverZ curve.area criteria.area1 criteria.area2 criteria.area3 criteria.greatestLever criteria.angleOfGreatest criteria.lw1 criteria.lw2 criteria.reaches criteria.phi0 criteria.passes1 criteria.passes2 criteria.passes3 criteria.passes4 criteria.passes5 criteria.passes6 criteria.passes7 roll.b roll.C roll.q roll.period roll.keelIndex roll.k roll.x1 roll.x2 roll.s roll.p roll.rOf roll.phi1 roll.start roll.u roll.stays roll.e roll.net roll.outsideRange roll.notJudged roll.noGust roll.passes8 verdict8 where8
 judgement c = record {
-  verdicts = verdict (passes1 c) ∷ verdict (passes2 c) ∷ verdict (passes3 c) ∷ verdict (passes4 c) ∷ verdict (passes5 c) ∷ verdict (passes6 c) ∷ verdict (passes7 c) ∷ verdict8 c ∷ [];
+  verdicts = slot (uses c 1) (verdict (passes1 c)) ∷ slot (uses c 2) (verdict (passes2 c)) ∷ slot (uses c 3) (verdict (passes3 c)) ∷ slot (uses c 4) (verdict (passes4 c)) ∷ slot (uses c 5) (verdict (passes5 c)) ∷ slot (uses c 6) (verdict (passes6 c)) ∷ slot (uses c 7) (verdict (passes7 c)) ∷ slot (uses c 8) (verdict8 c) ∷ [];
   figures =
       pos (c .w) ∷ pos (c .kg) ∷ gm c ∷ area1 c ∷ area2 c ∷ area3 c ∷ greatestLever c ∷ pos (angleOfGreatest c) ∷ phi0Figure c ∷ where8 c (pos (phi1 c)) ∷ where8 c (net c) ∷ [];
 }

@@ -58,7 +58,7 @@ unfoldable pub x1 : Loaded → ℕ
 x1 c = table up X1 (b c)
 
 unfoldable pub x2 : Loaded → ℕ
-x2 c = table up X2 (c .weather .cb)
+x2 c = table up X2 (c .weather .sky .cb)
 
 unfoldable pub s : Loaded → ℕ
 s c = table up S (period c)

@@ -4,7 +4,7 @@ use mathlib.Core.List.{List, [], _∷_, _++_}
 use Prim.Native.Nat.{ℕ, _-_, _≤_}
 use native.Mathlib.Omega.{arith}
 use lib.ListN.{length}
-use Rattle.rules.specs.Blocks.{block, spellValues, within, ok, spellBlock, Ship, Row, conditionTag, Weather, weather, Tank, ordinary, tank, entry, groupTag}
+use Rattle.rules.specs.Blocks.{block, spellValues, within, ok, spellBlock, Ship, Row, conditionTag, code, Weather, spellWeather, Tank, ordinary, tank, entry, groupTag}
 use Rattle.rules.specs.Layout.{end, spell, leaves, Rising, mostDepth, mostEntries, mostCharacters}
 use Rattle.rules.specs.Outcome.{refused, got}
 use Rattle.rules.specs.Walk.{linesFrom, read}
@@ -28,7 +28,7 @@ abbrev pub rows : List Row
 rows = record { mass = 1_400_000; draught = 4_000; km = 4_500; kn = levers } ∷ record { mass = 1_600_000; draught = 4_400; km = 4_500; kn = levers } ∷ []
 
 abbrev pub sky : Weather
-sky = record { windArea = 2_500; z = 4_000; cb = 700; flooding = 500; deckEdge = 200 }
+sky = record { set = code; sky = record { windArea = 2_500; z = 4_000; cb = 700; flooding = 500; deckEdge = 200 } }
 
 abbrev aTank : Tank
 aTank = record { mass = 700_000; centre = 4_000; fill = 500; density = 1_025; inertia = 100 }
@@ -38,7 +38,7 @@ abbrev held : List ℕ
 held = groupTag ∷ 0 ∷ 34 ∷ spellBlock (entry (tank ordinary)) aTank
 
 abbrev drawn : List (List ℕ)
-drawn = lead hull rows (block conditionTag (spellBlock weather sky ++ (block groupTag held ++ spellBlock (entry (tank ordinary)) aTank)) ∷ [])
+drawn = lead hull rows (block conditionTag (spellWeather sky ++ (block groupTag held ++ spellBlock (entry (tank ordinary)) aTank)) ∷ [])
 
 drawn-is : linesFrom 1 drawing ≡ got drawn
 unfolding read block spellBlock spellValues behindRows

@@ -7,7 +7,7 @@ use lib.IntN.{pos, negℤ}
 use lib.ListN.{length, getD, replicate}
 use Rattle.rules.specs.Rounding.{Point, point}
 use Rattle.rules.specs.Text.{LF, digit}
-use Rattle.rules.specs.Blocks.{Row}
+use Rattle.rules.specs.Blocks.{Row, code}
 use Rattle.rules.specs.Curve.{knAt, Loaded, loaded, sines, lever, leverZ, y, area}
 use Rattle.rules.specs.Criteria.{area1, area2, area3, greatestLever, angleOfGreatest, gm, lw1, lw2, units, phi0Figure}
 use Rattle.rules.specs.Roll.{b, C, q, period, X1, X2, K, S, keelIndex, farthest, outsideRange, notJudged}
@@ -51,7 +51,7 @@ stations-printed = (refl, refl)
 abbrev afloat : (L B d km kg : ℕ) → List ℕ → (flooding : ℕ) → Loaded
 afloat L B d km kg kn flooding = record {
   ship = record { hullLength = L; breadth = B; keelArea = 0; bilge = 0 };
-  weather = record { windArea = 981; z = 100_000; cb = 700; flooding = flooding; deckEdge = 200 };
+  weather = record { set = code; sky = record { windArea = 981; z = 100_000; cb = 700; flooding = flooding; deckEdge = 200 } };
   w = 5_040;
   kg = kg;
   draught = d;

@@ -1,5 +1,5 @@
 -- The angles of the criteria are what 01's words say of them, and so nothing else: the greatest lever's, phi0, u and e.
-use mathlib.Core.Path.{_≡_, refl, ap}
+use mathlib.Core.Path.{_≡_, refl, ap, _∙_}
 use mathlib.Core.Bool.{Bool, true, false}
 use Prim.Native.Nat.{ℕ, _-_, _≤_, _<_}
 use native.Mathlib.Omega.{arith}
@@ -8,8 +8,9 @@ use lib.IntN.{ℤ, pos, _-ℤ_}
 use lib.Signed.{leZ}
 use borrow.Author.Tests.{ltb-false, lt-ltb, le-ltb}
 use Rattle.rules.specs.Rounding.{peak}
+use Rattle.rules.specs.Blocks.{timber}
 use Rattle.rules.specs.Curve.{Loaded, y, E}
-use Rattle.rules.specs.Criteria.{greatestLever, angleOfGreatest, lw1, lw2, units, phi0}
+use Rattle.rules.specs.Criteria.{set, greatestLever, angleOfGreatest, lw1, lw2, units, phi0}
 use Rattle.rules.specs.Roll.{phi1, start, farthest, u, e, noGust}
 use Rattle.rules.proofs.rounding.Signed.{up, dn, Le, eq!, at-least, not-at-least}
 use Rattle.rules.proofs.rounding.Searches.{Peak, peak-is, Reaches, reaches-is, Stays, stays-is}
@@ -20,14 +21,25 @@ pub angle-is : (c : Loaded) → Peak (λ t. y c (pos t)) 0 (E c) (angleOfGreates
 unfolding angleOfGreatest
 angle-is c = peak-is (λ t. y c (pos t)) 0 (E c)
 
--- 'Greatest y from 300 to E .. If E < 300: .. figure 0.'
-pub greatest-is : (c : Loaded) → 300 ≤ E c → (t : ℕ) × Peak (λ t. y c (pos t)) 300 (E c - 300) t × (greatestLever c ≡ y c (pos t))
+-- 'Greatest y from 300 to E .. If E < 300: .. figure 0'; from 0 in the timber set: over any set, from where it looks.
+pub greatest-at : (c : Loaded) → set c .from ≤ E c → greatestLever c ≡ y c (pos (peak (λ t. y c (pos t)) (set c .from) (E c - set c .from)))
 unfolding greatestLever
-greatest-is c h = (peak (λ t. y c (pos t)) 300 (E c - 300), peak-is (λ t. y c (pos t)) 300 (E c - 300), ap (λ (b : Bool). elim b [ true ↦ pos 0 | false ↦ y c (pos (peak (λ t. y c (pos t)) 300 (E c - 300))) ]) (le-ltb (E c) 300 h))
+greatest-at c h = ap (λ (b : Bool). elim b [ true ↦ pos 0 | false ↦ y c (pos (peak (λ t. y c (pos t)) (set c .from) (E c - set c .from))) ]) (le-ltb (E c) (set c .from) h)
 
-pub greatest-none : (c : Loaded) → E c < 300 → greatestLever c ≡ pos 0
+pub greatest-is : (c : Loaded) → set c .from ≤ E c → (t : ℕ) × Peak (λ t. y c (pos t)) (set c .from) (E c - set c .from) t × (greatestLever c ≡ y c (pos t))
+greatest-is c h = (peak (λ t. y c (pos t)) (set c .from) (E c - set c .from), peak-is (λ t. y c (pos t)) (set c .from) (E c - set c .from), greatest-at c h)
+
+pub greatest-none : (c : Loaded) → E c < set c .from → greatestLever c ≡ pos 0
 unfolding greatestLever
-greatest-none c h = ap (λ (b : Bool). elim b [ true ↦ pos 0 | false ↦ y c (pos (peak (λ t. y c (pos t)) 300 (E c - 300))) ]) (lt-ltb (E c) 300 h)
+greatest-none c h = ap (λ (b : Bool). elim b [ true ↦ pos 0 | false ↦ y c (pos (peak (λ t. y c (pos t)) (set c .from) (E c - set c .from))) ]) (lt-ltb (E c) (set c .from) h)
+
+-- With timber on deck the greatest lever is that of criterion 5's angle.
+pub timber-lever : (c : Loaded) → c .weather .set ≡ timber → greatestLever c ≡ y c (pos (angleOfGreatest c))
+unfolding angleOfGreatest
+timber-lever c e =
+    let zero : set c .from ≡ 0 = rw e in
+    let all : E c - 0 ≡ E c = omega arith in
+    greatest-at c (rw zero (omega arith)) ∙ ap (λ n. y c (pos (peak (λ t. y c (pos t)) n (E c - n)))) zero ∙ ap (λ n. y c (pos (peak (λ t. y c (pos t)) 0 n))) all
 
 -- 'phi0 = first t in 0..E with y >= lw1.'
 pub phi0-is : (c : Loaded) → Reaches (y c) (units (lw1 c)) 0 (E c) (phi0 c)

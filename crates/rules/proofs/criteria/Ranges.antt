@@ -22,7 +22,7 @@ pub x1-range : (c : Loaded) → (800 ≤ x1 c) × (x1 c ≤ 1000)
 x1-range c = rw (x1-up c (table Direction.up X1) X1-is) (table-within Direction.up 800 1000 X1 refl refl refl (b c))
 
 pub x2-range : (c : Loaded) → (750 ≤ x2 c) × (x2 c ≤ 1000)
-x2-range c = rw (x2-up c (table Direction.up X2) X2-is) (table-within Direction.up 750 1000 X2 refl refl refl (c .weather .cb))
+x2-range c = rw (x2-up c (table Direction.up X2) X2-is) (table-within Direction.up 750 1000 X2 refl refl refl (c .weather .sky .cb))
 
 pub s-range : (c : Loaded) → (350 ≤ s c) × (s c ≤ 1000)
 s-range c = rw (s-up c (table Direction.up S) S-is) (table-within Direction.up 350 1000 S refl refl refl (period c))

@@ -1,71 +1,105 @@
--- Each verdict is its figure against its limit, restated from 01: a figure equal to its limit passes, and one less fails.
+-- Each verdict is its figure against its limit, restated from 01 and the requests for each set of criteria: a figure equal to its limit passes, and one less fails.
 use mathlib.Core.Path.{_≡_, refl, _∙_}
 use mathlib.Core.Bool.{Bool, true, false, _&&_}
+use mathlib.Core.List.{[], _∷_, map}
 use Prim.Native.Nat.{ℕ, _*_, _≤_, _<_}
+use native.Mathlib.Omega.{arith}
 use lib.Dec.{leb}
+use lib.ListN.{replicate}
 use lib.IntN.{ℤ, pos}
 use lib.Signed.{leZ}
 use borrow.Author.Tests.{le-leb, lt-leb}
+use Rattle.rules.specs.Blocks.{Set, code, timber}
 use Rattle.rules.specs.Curve.{Loaded, E}
-use Rattle.rules.specs.Criteria.{area1, area2, area3, greatestLever, angleOfGreatest, gm, phi0, passes1, passes2, passes3, passes4, passes5, passes6, passes7}
+use Rattle.rules.specs.Criteria.{limitsOf, area1, area2, area3, greatestLever, angleOfGreatest, gm, phi0, passes1, passes2, passes3, passes4, passes5, passes6, passes7}
+use Rattle.rules.specs.Report.{pass, slot, verdictNumber}
 use Rattle.rules.specs.Roll.{net, passes8}
 use Rattle.rules.proofs.rounding.Signed.{Le, Lt, le-true, le-false}
 
--- A criterion that asks for at least so much.
-abbrev pub AtLeast : ℕ → (Loaded → ℤ) → (Loaded → Bool) → Type 0
-AtLeast limit figure passes = (c : Loaded) → passes c ≡ leZ (pos limit) (figure c)
+and-true : (b : Bool) → (b && true) ≡ b
+and-true true = refl
+and-true false = refl
 
-module _ (limit : ℕ) (figure : Loaded → ℤ) (passes : Loaded → Bool) (is : AtLeast limit figure passes) (c : Loaded) where
+-- A criterion of a set that asks for at least so much.
+abbrev pub AtLeast : Set → ℕ → (Loaded → ℤ) → (Loaded → Bool) → Type 0
+AtLeast s limit figure passes = (c : Loaded) → c .weather .set ≡ s → passes c ≡ leZ (pos limit) (figure c)
+
+module _ (s : Set) (limit : ℕ) (figure : Loaded → ℤ) (passes : Loaded → Bool) (is : AtLeast s limit figure passes) (c : Loaded) (e : c .weather .set ≡ s) where
   pub passes-from : Le (pos limit) (figure c) → passes c ≡ true
-  passes-from h = is c ∙ le-true (pos limit) (figure c) h
+  passes-from h = is c e ∙ le-true (pos limit) (figure c) h
 
   pub fails-below : Lt (figure c) (pos limit) → passes c ≡ false
-  fails-below h = is c ∙ le-false (pos limit) (figure c) h
+  fails-below h = is c e ∙ le-false (pos limit) (figure c) h
 
-pub criterion1 : AtLeast 315_126_800_000 area1 passes1
+-- ---- the Code's set
+pub criterion1 : AtLeast code 315_126_800_000 area1 passes1
 unfolding passes1
-criterion1 c = refl
+criterion1 c s = rw s
 
-pub criterion2 : AtLeast 171_887_400_000 area2 passes2
+pub criterion2 : AtLeast code 171_887_400_000 area2 passes2
 unfolding passes2
-criterion2 c = refl
+criterion2 c s = rw s
 
-pub criterion3 : AtLeast 515_662_100_000 area3 passes3
+pub criterion3 : AtLeast code 515_662_100_000 area3 passes3
 unfolding passes3
-criterion3 c = refl
+criterion3 c s = rw s
 
 -- 'If E < 300: fail.'
-pub criterion4 : (c : Loaded) → 300 ≤ E c → passes4 c ≡ leZ (pos 1_000_000_000) (greatestLever c)
+pub criterion4 : (c : Loaded) → c .weather .set ≡ code → 300 ≤ E c → passes4 c ≡ leZ (pos 1_000_000_000) (greatestLever c)
 unfolding passes4
-criterion4 c h = rw (le-leb 300 (E c) h)
+criterion4 c s h = rw (s, le-leb 300 (E c) h)
 
-pub criterion4-short : (c : Loaded) → E c < 300 → passes4 c ≡ false
+pub criterion4-short : (c : Loaded) → c .weather .set ≡ code → E c < 300 → passes4 c ≡ false
 unfolding passes4
-criterion4-short c h = rw (lt-leb 300 (E c) h)
+criterion4-short c s h = rw (s, lt-leb 300 (E c) h)
 
-pub criterion5 : AtLeast 250 (λ c. pos (angleOfGreatest c)) passes5
+pub criterion5 : AtLeast code 250 (λ c. pos (angleOfGreatest c)) passes5
 unfolding passes5
-criterion5 c = refl
+criterion5 c s = rw s
 
-pub criterion6 : AtLeast 150 gm passes6
+pub criterion6 : AtLeast code 150 gm passes6
 unfolding passes6
-criterion6 c = refl
+criterion6 c s = rw s
 
 -- 'Pass: phi0 <= 160 and 10 phi0 <= 8 x deck edge. None: fail.'
-pub criterion7 : (c : Loaded) → passes7 c ≡ leb (phi0 c) (E c) && leb (phi0 c) 160 && leb (10 * phi0 c) (8 * c .weather .deckEdge)
+pub criterion7 : (c : Loaded) → c .weather .set ≡ code → passes7 c ≡ leb (phi0 c) (E c) && leb (phi0 c) 160 && leb (10 * phi0 c) (8 * c .weather .sky .deckEdge)
 unfolding passes7
-criterion7 c = refl
+criterion7 c s = rw s
 
 -- 'phi0 160 passes with deck edge 200 and fails with 199.'
-pub heel-200 : (c : Loaded) → phi0 c ≡ 160 → 160 ≤ E c → c .weather .deckEdge ≡ 200 → passes7 c ≡ true
-unfolding passes7
-heel-200 c h e d = rw (h, le-leb 160 (E c) e, d)
+pub heel-200 : (c : Loaded) → c .weather .set ≡ code → phi0 c ≡ 160 → 160 ≤ E c → c .weather .sky .deckEdge ≡ 200 → passes7 c ≡ true
+heel-200 c s h e d = rw (criterion7 c s, h, le-leb 160 (E c) e, d)
 
-pub heel-199 : (c : Loaded) → phi0 c ≡ 160 → 160 ≤ E c → c .weather .deckEdge ≡ 199 → passes7 c ≡ false
-unfolding passes7
-heel-199 c h e d = rw (h, le-leb 160 (E c) e, d)
+pub heel-199 : (c : Loaded) → c .weather .set ≡ code → phi0 c ≡ 160 → 160 ≤ E c → c .weather .sky .deckEdge ≡ 199 → passes7 c ≡ false
+heel-199 c s h e d = rw (criterion7 c s, h, le-leb 160 (E c) e, d)
 
--- 'Pass: net >= 0.'
-pub criterion8 : AtLeast 0 net passes8
+-- ---- timber on deck
+-- 'Area of criterion 3 at least 458,366,300,000.'
+pub timber3 : AtLeast timber 458_366_300_000 area3 passes3
+unfolding passes3
+timber3 c s = rw s
+
+-- 'At least 0.25 m (1,250,000,000)', for every E.
+pub timber4 : AtLeast timber 1_250_000_000 greatestLever passes4
+unfolding passes4
+timber4 c s = rw (s, le-leb 0 (E c) (omega arith))
+
+-- 'GM at least 100.'
+pub timber6 : AtLeast timber 100 gm passes6
+unfolding passes6
+timber6 c s = rw s
+
+-- 'Steady heel at most 16°, deck edge ignored.'
+pub timber7 : (c : Loaded) → c .weather .set ≡ timber → passes7 c ≡ leb (phi0 c) (E c) && leb (phi0 c) 160
+unfolding passes7
+timber7 c s = rw s (and-true _)
+
+-- 'Slots 1, 2 and 5 read 4, unused'; in the Code's set every slot is used.
+pub slots-used : map (λ s. map (λ used. verdictNumber (slot used pass)) (limitsOf s .used)) (code ∷ timber ∷ []) ≡ replicate 8 1 ∷ (4 ∷ 4 ∷ 1 ∷ 1 ∷ 4 ∷ 1 ∷ 1 ∷ 1 ∷ []) ∷ []
+slots-used = refl
+
+-- ---- every set
+-- 'Pass: net >= 0'; 'criterion 8 as before'.
+pub criterion8 : (c : Loaded) → passes8 c ≡ leZ (pos 0) (net c)
 unfolding passes8
 criterion8 c = refl

@@ -5,7 +5,7 @@ use mathlib.Core.List.{List, [], _∷_, map}
 use Prim.Native.Nat.{ℕ, zero, suc, _*_}
 use lib.Dec.{eqb}
 use lib.ListN.{replicate}
-use Rattle.rules.specs.Blocks.{Layout, Field, field, size, within, ok, ship, row, weather, Tank, TankKind, ordinary, cargo, item, tank, entry}
+use Rattle.rules.specs.Blocks.{Layout, Field, field, size, within, ok, ship, row, code, timber, weather, Tank, TankKind, ordinary, cargo, item, tank, entry}
 use Rattle.rules.specs.Loading.{freeSurfaceOf}
 
 -- The lists that have one number one lower, or one higher, than this one.
@@ -43,17 +43,22 @@ printed L tag bytes fs = eqb (L .tag) tag && eqb (size (L .fields)) bytes && sam
 abbrev tankFields : List Field
 tankFields = field 4 0 600_000_000 ∷ field 2 0 60_000 ∷ field 2 0 1_000 ∷ field 2 0 2_000 ∷ field 4 0 100_000 ∷ []
 
+-- The line of C1, which is C6's too.
+abbrev weatherFields : List Field
+weatherFields = field 4 0 300_000 ∷ field 2 0 60_000 ∷ field 2 200 1_000 ∷ field 2 0 600 ∷ field 2 1 600 ∷ []
+
 abbrev pub blocks : List Bool
 blocks =
     printed ship 0xA1 13 (field 4 24_000 400_000 ∷ field 4 3_000 70_000 ∷ field 4 0 20_000 ∷ field 1 0 1 ∷ [])
     ∷ printed row 0xA2 34 (field 4 100_000 600_000_000 ∷ field 2 500 30_000 ∷ field 2 0 60_000 ∷ field 2 0 0 ∷ replicate 12 (field 2 0 30_000))
-    ∷ printed weather 0xC1 12 (field 4 0 300_000 ∷ field 2 0 60_000 ∷ field 2 200 1_000 ∷ field 2 0 600 ∷ field 2 1 600 ∷ [])
+    ∷ printed (weather code) 0xC1 12 weatherFields
+    ∷ printed (weather timber) 0xC6 12 weatherFields
     ∷ printed (entry item) 0xC2 6 (field 4 0 600_000_000 ∷ field 2 0 60_000 ∷ [])
     ∷ printed (entry (tank ordinary)) 0xC3 14 tankFields
     ∷ printed (entry (tank cargo)) 0xC5 14 tankFields
     ∷ []
 
-pub blocks-printed : blocks ≡ replicate 6 true
+pub blocks-printed : blocks ≡ replicate 7 true
 unfolding ok within size
 blocks-printed = refl
 

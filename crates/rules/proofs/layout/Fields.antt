@@ -9,7 +9,7 @@ use lib.Seq.{drop-cons, take-at, drop-at}
 use lib.Dec.{ltb, leb}
 use borrow.Author.Tests.{ltb-true, leb-true}
 use Rattle.rules.specs.Numbers.{digits, Bytes}
-use Rattle.rules.specs.Blocks.{Field, field, size, values, spellValues, within, Layout, ok, ship, row, weather, TankKind, ordinary, cargo, tankTag, Load, item, tank, entry}
+use Rattle.rules.specs.Blocks.{Field, field, size, values, spellValues, within, Layout, ok, ship, row, Set, code, timber, weather, TankKind, ordinary, cargo, tankTag, Load, item, tank, entry}
 use Rattle.rules.proofs.layout.Numbers.{Bytes-take, Bytes-drop, Bytes-append, Bytes-digits, length-digits, num-digits, digits-num}
 
 pub both-true : (a b : Bool) → (a && b) ≡ true → (a ≡ true) × (b ≡ true)
@@ -129,9 +129,13 @@ pub row-lawful : Lawful row
 unfolding narrow size
 row-lawful = record { named-listed = λ a. refl; listed-named = λ v l. placed-all 3 0 3 v (drop 3 v) refl (omega arith) refl; limits = refl; tag-fits = omega arith; size-fits = omega arith }
 
-pub weather-lawful : Lawful weather
+tag-of-set : (s : Set) → weather s .tag < 256
+tag-of-set code = omega arith
+tag-of-set timber = omega arith
+
+pub weather-lawful : (s : Set) → Lawful (weather s)
 unfolding narrow size
-weather-lawful = record { named-listed = λ a. refl; listed-named = each 5; limits = refl; tag-fits = omega arith; size-fits = omega arith }
+weather-lawful s = record { named-listed = λ a. refl; listed-named = each 5; limits = refl; tag-fits = tag-of-set s; size-fits = omega arith }
 
 pub entry-lawful : (k : Load) → Lawful (entry k)
 unfolding narrow size

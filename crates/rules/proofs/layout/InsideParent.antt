@@ -6,13 +6,13 @@ use native.Mathlib.Omega.{arith}
 use lib.ListN.{length, getD, length-append}
 use lib.Seq.{getD-append-seam, getD-append-add}
 use Rattle.rules.specs.Numbers.{num, digits}
-use Rattle.rules.specs.Blocks.{block, spellValues, Row, ship, row, conditionTag, weather, entry, groupTag, spellBlock}
+use Rattle.rules.specs.Blocks.{block, spellValues, Row, ship, row, conditionTag, weather, entry, groupTag, spellBlock, spellWeather}
 use Rattle.rules.specs.Layout.{Entries, end, leaf, group, Condition, Reading, spell, spellCondition, rowFrames, frames, Rising, ConditionLimits, Limits}
 use Rattle.rules.specs.Parts.{be2}
 use Rattle.rules.specs.Places.{endOf, Fills, FrameFills, FramesFill, ConditionFills, LinesFill}
 use Rattle.rules.proofs.layout.Numbers.{num-digits}
 use Rattle.rules.proofs.layout.Fields.{length-fits, ship-lawful, row-lawful}
-use Rattle.rules.proofs.walk.Conditions.{length-condition}
+use Rattle.rules.proofs.walk.Conditions.{weatherBody, length-condition}
 use Rattle.rules.proofs.walk.Entries.{length-leaf, length-group}
 
 -- A block that stands in a line says its tag and its length there.
@@ -72,7 +72,7 @@ frame-fills t body s =
     omega (arith, B .1)
 
 -- The line of A3: its head, then what is inside.
-condition-line : (c : Condition) → block conditionTag (spellCondition c) ≡ (conditionTag ∷ digits 2 (length (spellCondition c))) ++ (spellBlock weather (c .weather) ++ spell (c .load))
+condition-line : (c : Condition) → block conditionTag (spellCondition c) ≡ (conditionTag ∷ digits 2 (length (spellCondition c))) ++ (spellWeather (c .weather) ++ spell (c .load))
 unfolding block spellCondition
 condition-line c = refl
 
@@ -81,20 +81,21 @@ unfolding spellBlock
 condition-fills c s =
     let line : List ℕ = block conditionTag (spellCondition c) in
     let head : List ℕ = conditionTag ∷ digits 2 (length (spellCondition c)) in
-    let body : List ℕ = spellValues (weather .fields) (weather .listed (c .weather)) in
-    let e : line ≡ head ++ (block (weather .tag) body ++ spell (c .load)) = condition-line c in
+    let body : List ℕ = weatherBody (c .weather) in
+    let t = weather (c .weather .set) .tag in
+    let e : line ≡ head ++ (block t body ++ spell (c .load)) = condition-line c in
     let L = length-condition c in
     let M : length line ≡ 3 + length (spellCondition c) = length-end [] conditionTag (spellCondition c) in
     let H : length head ≡ 3 = length-head [] conditionTag (length (spellCondition c)) in
     let A = block-at line [] 0 conditionTag (spellCondition c) [] (sym (append-nil line)) refl s in
-    let B = block-at line head 3 (weather .tag) body (spell (c .load)) e H (omega arith) in
+    let B = block-at line head 3 t body (spell (c .load)) e H (omega arith) in
     record {
       frame = frame-fills conditionTag (spellCondition c) s;
       frameTag = A .0;
       weatherTag = B .0;
       weatherInside = omega (arith, B .1);
       load =
-          fills (c .load) line (head ++ block (weather .tag) body) [] (endOf line 3) (length line) (e ∙ sym (append-assoc head (block (weather .tag) body) (spell (c .load))) ∙ ap ((head ++ block (weather .tag) body) ++_) (sym (append-nil (spell (c .load))))) (rw (length-end head (weather .tag) body) (omega (arith, B .1))) (omega (arith, B .1)) (omega arith);
+          fills (c .load) line (head ++ block t body) [] (endOf line 3) (length line) (e ∙ sym (append-assoc head (block t body) (spell (c .load))) ∙ ap ((head ++ block t body) ++_) (sym (append-nil (spell (c .load))))) (rw (length-end head t body) (omega (arith, B .1))) (omega (arith, B .1)) (omega arith);
     }
 
 -- All lines of a reading.

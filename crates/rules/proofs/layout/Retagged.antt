@@ -83,7 +83,7 @@ spell-retagged (inGroup r m) = insideGroup (spell r) (spell-retagged m)
 
 rows-retagged : {t : Tank} (vs : List Row) (w : Weather) {F G : Entries} → MadeCargo t F G → RetaggedLines (rowFrames vs (record { weather = w; load = F })) (rowFrames vs (record { weather = w; load = G }))
 unfolding rowFrames spellCondition spellBlock
-rows-retagged [] w m = inCondition [] (afterBlock (weather .tag) (spellValues (weather .fields) (weather .listed w)) (spell-retagged m))
+rows-retagged [] w m = inCondition [] (afterBlock (weather (w .set) .tag) (spellValues (weather (w .set) .fields) (weather (w .set) .listed (w .sky))) (spell-retagged m))
 rows-retagged (v ∷ vs) w m = afterLine (spellBlock row v) (rows-retagged vs w m)
 
 pub frames-retagged : {t : Tank} (r : Reading) (G : Entries) → MadeCargo t (r .condition .load) G → RetaggedLines (frames r) (frames (loadedWith r G))

@@ -22,9 +22,9 @@ unfolding correctedKG
 kg-up es h = ceil-is (total moment es + total freeSurface es) (displacement es) h
 
 -- 'lw1 = 5040 x wind area x Z / (981 x W), rounded up.'
-pub lw1-up : (c : Loaded) → 0 < c .w → Ceiling (5040 * c .weather .windArea * c .weather .z) (981 * c .w) (lw1 c)
+pub lw1-up : (c : Loaded) → 0 < c .w → Ceiling (5040 * c .weather .sky .windArea * c .weather .sky .z) (981 * c .w) (lw1 c)
 unfolding lw1
-lw1-up c h = ceil-is (5040 * c .weather .windArea * c .weather .z) (981 * c .w) (omega arith)
+lw1-up c h = ceil-is (5040 * c .weather .sky .windArea * c .weather .sky .z) (981 * c .w) (omega arith)
 
 -- 'lw2 = 3 lw1 / 2, rounded up': of the rounded lw1.
 pub lw2-up : (c : Loaded) → Ceiling (3 * lw1 c) 2 (lw2 c)
@@ -61,9 +61,9 @@ pub x1-up : (c : Loaded) (f : ℕ → ℕ) → Linear up X1 f → x1 c ≡ f (b 
 unfolding x1
 x1-up c f l = linear-unique up X1 refl (table up X1) f X1-is l (b c)
 
-pub x2-up : (c : Loaded) (f : ℕ → ℕ) → Linear up X2 f → x2 c ≡ f (c .weather .cb)
+pub x2-up : (c : Loaded) (f : ℕ → ℕ) → Linear up X2 f → x2 c ≡ f (c .weather .sky .cb)
 unfolding x2
-x2-up c f l = linear-unique up X2 refl (table up X2) f X2-is l (c .weather .cb)
+x2-up c f l = linear-unique up X2 refl (table up X2) f X2-is l (c .weather .sky .cb)
 
 pub s-up : (c : Loaded) (f : ℕ → ℕ) → Linear up S f → s c ≡ f (period c)
 unfolding s

@@ -1,41 +1,60 @@
 -- The ways out of a condition and of a frame, one fact each, by places: what the code answers with.
 use mathlib.Core.Path.{_≡_, refl, ap, sym, _∙_}
-use mathlib.Core.Bool.{true, false}
-use mathlib.Core.List.{List}
+use mathlib.Core.Bool.{Bool, true, false}
+use mathlib.Core.List.{List, [], _∷_}
 use Prim.Native.Nat.{ℕ, _+_, _≤_, _<_}
 use native.Mathlib.Omega.{arith}
 use lib.ListN.{length}
 use lib.Dec.{ltb, leb}
 use borrow.Author.Tests.{lt-ltb, le-ltb, le-leb, lt-leb, eq-eqb, ne-eqb}
-use Rattle.rules.specs.Blocks.{Layout, size, ok, values, ship, Row, row, conditionTag, weather}
+use Rattle.rules.specs.Blocks.{Layout, size, ok, values, ship, Row, row, conditionTag, Set, code, timber, weather}
 use Rattle.rules.specs.Layout.{fewestRows, mostRows, mostDepth, mostEntries, mostBytes}
 use Rattle.rules.specs.Outcome.{refused, got, test, _>>=_, _>>_}
-use Rattle.rules.specs.Walk.{Head, header, fixed, entries, weatherAt, loadAt, inside, conditionIn, fixedIn, shipFrame, rowIn, aRow, aCondition, frameOf, tableRow, theCondition, found, frameAt}
+use Rattle.rules.specs.Walk.{Head, header, fixed, entries, among, chosen, weatherIn, weatherAt, loadAt, inside, conditionIn, fixedIn, shipFrame, rowIn, aRow, aCondition, frameOf, tableRow, theCondition, found, frameAt}
 use Rattle.rules.specs.Parts.{part, headAt}
 use Rattle.rules.proofs.walk.Outcome.{bind-got, bind-refused, test-got, test-refused}
+use Rattle.rules.proofs.walk.Conditions.{chosen-got}
 use Rattle.rules.proofs.layout.Parts.{full-some, full-none, length-part}
 use Rattle.rules.proofs.walk.BlockExits.{fixed-length, fixed-outside, fixed-within}
 
 -- ---- the weather
+-- The set by its tag.
+module _ (ln t : ℕ) where
+  pub set-known : (s : Set) → t ≡ weather s .tag → chosen ln t ≡ got s
+  set-known s e = rw e (chosen-got ln s)
+
+  next : (s : Set) (ss : List Set) → (t ≡ weather s .tag → ⊥) → among ln t (s ∷ ss) ≡ among ln t ss
+  unfolding among
+  next s ss h = ap (λ (b : Bool). elim b [ true ↦ got s | false ↦ among ln t ss ]) (ne-eqb _ _ h)
+
+  pub set-other : (t ≡ weather code .tag → ⊥) → (t ≡ weather timber .tag → ⊥) → chosen ln t ≡ refused 4 ln 3
+  unfolding chosen
+  set-other a b = next code (timber ∷ []) a ∙ next timber [] b
+
+-- Its values, for any set.
+module _ (ln : ℕ) (s : Set) (body : List ℕ) where
+  pub weather-length : (length body ≡ size (weather s .fields) → ⊥) → weatherIn ln s body ≡ refused 3 ln 3
+  unfolding weatherIn
+  weather-length h = bind-refused _ (fixed-length ln 3 (weather s) body true h)
+
+  module _ (h : length body ≡ size (weather s .fields)) where
+    pub weather-outside : ok (weather s) (weather s .named (values (weather s .fields) body)) ≡ false → weatherIn ln s body ≡ refused 6 ln 3
+    unfolding weatherIn
+    weather-outside o = bind-refused _ (fixed-outside ln 3 (weather s) body true h refl o)
+
+    pub weather-within : ok (weather s) (weather s .named (values (weather s .fields) body)) ≡ true → weatherIn ln s body ≡ got (record { set = s; sky = weather s .named (values (weather s .fields) body) })
+    unfolding weatherIn
+    weather-within o = bind-got _ (fixed-within ln 3 (weather s) body true h refl o)
+
+-- The block: its set, or 4; then its values.
 module _ (ln t : ℕ) (body : List ℕ) where
-  pub weather-tag : (t ≡ weather .tag → ⊥) → weatherAt ln t body ≡ refused 4 ln 3
+  pub weather-tag : {n l o : ℕ} → chosen ln t ≡ refused n l o → weatherAt ln t body ≡ refused n l o
   unfolding weatherAt
-  weather-tag h = test-refused _ _ _ _ (ne-eqb _ _ h)
+  weather-tag h = bind-refused _ h
 
-  module _ (e : t ≡ weather .tag) where
-    weather-first : weatherAt ln t body ≡ fixed ln weather true 3 body
-    unfolding weatherAt
-    weather-first = test-got _ _ _ _ (eq-eqb _ _ e)
-
-    pub weather-length : (length body ≡ size (weather .fields) → ⊥) → weatherAt ln t body ≡ refused 3 ln 3
-    weather-length h = weather-first ∙ fixed-length ln 3 weather body true h
-
-    module _ (h : length body ≡ size (weather .fields)) where
-      pub weather-outside : ok weather (weather .named (values (weather .fields) body)) ≡ false → weatherAt ln t body ≡ refused 6 ln 3
-      weather-outside o = weather-first ∙ fixed-outside ln 3 weather body true h refl o
-
-      pub weather-within : ok weather (weather .named (values (weather .fields) body)) ≡ true → weatherAt ln t body ≡ got (weather .named (values (weather .fields) body))
-      weather-within o = weather-first ∙ fixed-within ln 3 weather body true h refl o
+  pub weather-set : (s : Set) → chosen ln t ≡ got s → weatherAt ln t body ≡ weatherIn ln s body
+  unfolding weatherAt
+  weather-set s h = bind-got _ h
 
 -- ---- the load
 module _ (ln at : ℕ) (s : List ℕ) where

@@ -9,7 +9,7 @@ use lib.ListN.{length, length-append}
 use borrow.Author.Tests.{leb-true}
 use Rattle.rules.specs.Numbers.{Bytes, full}
 use Rattle.rules.specs.Text.{text, Lines}
-use Rattle.rules.specs.Blocks.{block, ok, spellBlock, Ship, ship, Row, row, conditionTag, Weather, weather, Load, Values, entry, groupTag}
+use Rattle.rules.specs.Blocks.{block, ok, spellBlock, Ship, ship, Row, row, conditionTag, Weather, okWeather, spellWeather, Load, Values, entry, groupTag}
 use Rattle.rules.specs.Layout.{Entries, end, leaf, group, Condition, spell, spellCondition, leaves, depth, some, Good, Rising, fewestRows, mostRows, mostDepth, mostEntries, mostBytes, mostCharacters, ConditionLimits}
 use Rattle.rules.specs.Outcome.{Ans, refused, got}
 use Rattle.rules.specs.Walk.{Head, header, Block, one, nest, Walk, step, walk, entries, loadAt, inside, conditionIn, shipFrame, Frame, aRow, aCondition, Found, tableRow, theCondition, found, frameAt, closed, after, tail, readFrames, read}
@@ -110,8 +110,8 @@ record MetOver (ls : List (List ℕ)) (l o : ℕ) : Type 0 where
 
 module _ (s : Ship) (vs : List Row) (L : Led s vs) where
   -- ---- inside the condition
-  entry-is : (later : List (List ℕ)) (w : Weather) (b body : List ℕ) {o at : ℕ} {left : List ℕ} → fewestRows ≤ length vs → ok weather w ≡ true → spellBlock weather w ++ b ≡ body → length body ≤ mostBytes
-      → at ≡ 3 + length (spellBlock weather w) → Meets mostDepth mostEntries at b o left → Met (lead s vs (block conditionTag body ∷ later)) (2 + length vs) o left
+  entry-is : (later : List (List ℕ)) (w : Weather) (b body : List ℕ) {o at : ℕ} {left : List ℕ} → fewestRows ≤ length vs → okWeather w ≡ true → spellWeather w ++ b ≡ body → length body ≤ mostBytes
+      → at ≡ 3 + length (spellWeather w) → Meets mostDepth mostEntries at b o left → Met (lead s vs (block conditionTag body ∷ later)) (2 + length vs) o left
   entry-is later w b body f h e c q m = rw (← e) (entryBlock s vs w b later L f h (rw e c) (rw q at m))
 
   inside-over : (later : List (List ℕ)) (body : List ℕ) → fewestRows ≤ length vs → Bytes body → length body ≤ mostBytes → Refusal (Two (MetOver (lead s vs (block conditionTag body ∷ later)))) (inside (2 + length vs) body)

@@ -6,7 +6,7 @@ use Prim.Native.Nat.{ℕ, _+_, _-_, _≤_, _<_}
 use native.Mathlib.Omega.{arith}
 use lib.ListN.{length, length-append}
 use Rattle.rules.specs.Text.{text, Lines}
-use Rattle.rules.specs.Blocks.{block, spellValues, ok, spellBlock, Ship, Row, conditionTag, Weather, weather, entry, groupTag}
+use Rattle.rules.specs.Blocks.{block, spellValues, ok, spellBlock, Ship, Row, conditionTag, Weather, weather, okWeather, spellWeather, entry, groupTag}
 use Rattle.rules.specs.Layout.{Entries, end, leaf, group, spell, spellCondition, leaves, depth, Good, Rising, fewestRows, mostRows, mostDepth, mostEntries, mostBytes, mostCharacters}
 use Rattle.rules.specs.Outcome.{refused}
 use Rattle.rules.specs.Walk.{step, entries, weatherAt, loadAt, inside, closed, after, tail, readFrames, read}
@@ -16,7 +16,7 @@ use Rattle.rules.proofs.layout.Fields.{weather-lawful}
 use Rattle.rules.proofs.walk.Heads.{length-block, full-block, header-got, fixed-got}
 use Rattle.rules.proofs.walk.Fuel.{entries-block}
 use Rattle.rules.proofs.walk.Entries.{length-leaf, length-group, full-spell, entry-passes, group-passes, entries-got}
-use Rattle.rules.proofs.walk.Conditions.{inside-got}
+use Rattle.rules.proofs.walk.Conditions.{weatherBody, weather-got, inside-got}
 use Rattle.rules.proofs.walk.Frames.{ship-got, tail-row, condition-frame}
 use Rattle.rules.proofs.walk.WholeText.{read-lines}
 use Rattle.rules.proofs.layout.Parts.{full-some, header-overrun}
@@ -71,16 +71,17 @@ module _ (ln : ℕ) where
 weather-overrun : (ln : ℕ) (body : List ℕ) → Overruns body → inside ln body ≡ refused 2 ln 3
 weather-overrun ln body v = inside-short ln body (v .0) (header-overrun body ln 3 (v .1))
 
-entry-overrun : (ln : ℕ) (w : Weather) (b : List ℕ) {o : ℕ} {left : List ℕ} → ok weather w ≡ true → length (spellBlock weather w ++ b) ≤ mostBytes → Meets mostDepth mostEntries (3 + length (spellBlock weather w)) b o left → Overruns left
-    → inside ln (spellBlock weather w ++ b) ≡ refused 2 ln o
-unfolding inside weatherAt loadAt spellBlock
+entry-overrun : (ln : ℕ) (w : Weather) (b : List ℕ) {o : ℕ} {left : List ℕ} → okWeather w ≡ true → length (spellWeather w ++ b) ≤ mostBytes → Meets mostDepth mostEntries (3 + length (spellWeather w)) b o left → Overruns left
+    → inside ln (spellWeather w ++ b) ≡ refused 2 ln o
+unfolding inside loadAt spellBlock
 entry-overrun ln w b h l m v =
-    let body : List ℕ = spellValues (weather .fields) (weather .listed w) in
-    let L = length-block (weather .tag) body b in
-    let L0 = length-block (weather .tag) body [] in
-    let at : 3 + length (block (weather .tag) body) ≡ 6 + length body = rw (← (append-nil (block (weather .tag) body))) (omega arith) in
-    test-got _ _ _ _ (full-block (weather .tag) body b) ∙ bind-got _ (header-got ln 3 (weather .tag) body b (omega arith))
-    ∙ bind-got _ (test-got _ _ _ _ refl ∙ fixed-got ln 3 weather weather-lawful true w refl h)
+    let body : List ℕ = weatherBody w in
+    let t = weather (w .set) .tag in
+    let L = length-block t body b in
+    let L0 = length-block t body [] in
+    let at : 3 + length (block t body) ≡ 6 + length body = rw (← (append-nil (block t body))) (omega arith) in
+    test-got _ _ _ _ (full-block t body b) ∙ bind-got _ (header-got ln 3 t body b (omega arith))
+    ∙ bind-got _ (weather-got ln w h)
     ∙ bind-refused _ (test-got _ _ _ _ (full-some b (meets-some m (v .0))) ∙ ap (λ x. entries ln mostDepth mostEntries x b) (sym at) ∙ meets-overrun ln m (omega arith) v)
 
 -- ---- among frames
@@ -110,7 +111,7 @@ frames-overrun (frameBehind s vs c l later L f C) v =
     ∙ bind-refused _ (bind-refused _ (header-overrun l (2 + length vs + 1) 0 (v .1))) ∙ ap (λ x. refused 2 x 0) (omega arith))
 frames-overrun (weatherBlock s vs body later L f l) v = led-refused s vs (block conditionTag body ∷ later) L (λ q. condition-refused body later (2 + length vs) (length vs) q f l (weather-overrun (2 + length vs) body v))
 frames-overrun (entryBlock s vs w b later L f h l m) v =
-    led-refused s vs (block conditionTag (spellBlock weather w ++ b) ∷ later) L (λ q. condition-refused (spellBlock weather w ++ b) later (2 + length vs) (length vs) q f l (entry-overrun (2 + length vs) w b h l m v))
+    led-refused s vs (block conditionTag (spellWeather w ++ b) ∷ later) L (λ q. condition-refused (spellWeather w ++ b) later (2 + length vs) (length vs) q f l (entry-overrun (2 + length vs) w b h l m v))
 
 -- ---- a whole text
 pub overrun : (ls : List (List ℕ)) {ln o : ℕ} {left : List ℕ} → Lines ls → length (text ls) ≤ mostCharacters → Met ls ln o left → Overruns left → read (text ls) ≡ refused 2 ln o

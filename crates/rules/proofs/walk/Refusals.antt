@@ -9,10 +9,10 @@ use lib.ListN.{length}
 use lib.Dec.{ltb, leb, eqb}
 use borrow.Author.Tests.{leb-false}
 use Rattle.rules.specs.Numbers.{num}
-use Rattle.rules.specs.Blocks.{Layout, ship, row, conditionTag, weather, ordinary, cargo, item, tank, entry, groupTag}
+use Rattle.rules.specs.Blocks.{Layout, ship, row, conditionTag, Set, weather, ordinary, cargo, item, tank, entry, groupTag}
 use Rattle.rules.specs.Layout.{Reading, leaves, mostDepth, mostEntries, Allowed}
 use Rattle.rules.specs.Outcome.{Ans, refused, got, test, _>>=_, _>>_}
-use Rattle.rules.specs.Walk.{nibble, unhex, split, decode, linesFrom, Head, header, fixed, Tag, load, nested, tagOf, Block, one, nest, begun, blockAt, Walk, step, walk, entries, weatherAt, loadAt, inside, conditionIn, fixedIn, shipFrame, rowIn, Frame, aRow, aCondition, frameOf, Found, tableRow, theCondition, found, frameAt, closed, after, tail, readFrames, read}
+use Rattle.rules.specs.Walk.{nibble, unhex, split, decode, linesFrom, Head, header, fixed, Tag, load, nested, tagOf, Block, one, nest, begun, blockAt, Walk, step, walk, entries, sets, among, chosen, weatherIn, weatherAt, loadAt, inside, conditionIn, fixedIn, shipFrame, rowIn, Frame, aRow, aCondition, frameOf, Found, tableRow, theCondition, found, frameAt, closed, after, tail, readFrames, read}
 use Rattle.rules.specs.Parts.{be2}
 use Rattle.rules.proofs.walk.Outcome.{refused-got}
 use Rattle.rules.proofs.layout.Parts.{full-length}
@@ -163,9 +163,22 @@ module _ (ln : ℕ) where
   entries-refusal d n at s = walk-refusal (suc (length s)) d n at s (omega arith)
 
   -- ---- the condition and the frames
+  among-refusal : (t : ℕ) (ss : List Set) → Refusal (At 3 ln 3) (among ln t ss)
+  unfolding among
+  among-refusal t [] = plain (omega arith)
+  among-refusal t (s ∷ ss) = go (eqb t (weather s .tag)) (among-refusal t ss)
+    where
+      go : (b : Bool) → Refusal (At 3 ln 3) (among ln t ss) → Refusal {A = Set} (At 3 ln 3) (elim b [ true ↦ got s | false ↦ among ln t ss ])
+      go true f = given
+      go false f = f
+
+  chosen-refusal : (t : ℕ) → Refusal (At 3 ln 3) (chosen ln t)
+  unfolding chosen
+  chosen-refusal t = among-refusal t sets
+
   pub weather-refusal : (t : ℕ) (body : List ℕ) → Refusal (At 3 ln 3) (weatherAt ln t body)
-  unfolding weatherAt
-  weather-refusal t body = test-refusal _ _ _ _ _ (omega arith) (fixed-refusal weather true 3 body)
+  unfolding weatherAt weatherIn
+  weather-refusal t body = bind-refusal _ _ (chosen-refusal t) (λ s es. bind-refusal _ _ (fixed-refusal (weather s) true 3 body) (λ v ev. given))
 
   -- Inside the condition: 5 at its own offset, or behind its head; before its end.
   abbrev Inner : List ℕ → ℕ → ℕ → ℕ → Type 0

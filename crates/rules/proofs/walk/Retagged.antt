@@ -9,15 +9,16 @@ use lib.ListN.{length, take, drop}
 use lib.Dec.{ltb, leb, eqb}
 use Rattle.rules.specs.Numbers.{num, full}
 use Rattle.rules.specs.Text.{text, Lines}
-use Rattle.rules.specs.Blocks.{block, ok, ship, conditionTag, weather, Tank, TankKind, ordinary, cargo, tankTag, tank, entry, groupTag}
+use Rattle.rules.specs.Blocks.{block, ok, ship, conditionTag, Tank, TankKind, ordinary, cargo, tankTag, tank, entry, groupTag}
 use Rattle.rules.specs.Layout.{Entries, Condition, Reading, frames, spellText, leaves, fewestRows, mostDepth, mostEntries, mostBytes, mostCharacters}
 use Rattle.rules.specs.Outcome.{Ans, refused, got, test, _>>=_, _>>_}
-use Rattle.rules.specs.Walk.{Head, header, fixed, tagOf, Block, one, nest, begun, blockAt, step, entries, weatherAt, loadAt, inside, conditionIn, fixedIn, frameOf, Found, tableRow, theCondition, found, frameAt, closed, Tail, after, tail, shipFrame, readFrames, read}
+use Rattle.rules.specs.Walk.{Head, header, fixed, tagOf, Block, one, nest, begun, blockAt, step, entries, chosen, weatherAt, loadAt, inside, conditionIn, fixedIn, frameOf, Found, tableRow, theCondition, found, frameAt, closed, Tail, after, tail, shipFrame, readFrames, read}
 use Rattle.rules.specs.Leaves.{loadedWith}
 use Rattle.rules.specs.Cargo.{MadeCargo, here, afterEntry, afterGroup, inGroup, Retagged, tagHere, afterBlock, insideGroup, RetaggedLines, asFrame, inCondition, afterLine}
 use Rattle.rules.proofs.layout.Lines.{lines-sound}
 use Rattle.rules.proofs.walk.Outcome.{refused-got, bind-got, bind-refused, test-got, test-refused}
 use Rattle.rules.proofs.walk.Heads.{length-block, full-block, header-got}
+use Rattle.rules.proofs.walk.FrameExits.{weather-tag}
 use Rattle.rules.proofs.walk.Frames.{frame-got}
 use Rattle.rules.proofs.walk.WholeText.{read-lines, sound, lines-of-reading}
 use Rattle.rules.proofs.walk.Fuel.{entries-some, entries-block}
@@ -160,11 +161,11 @@ module _ (ln : ℕ) where
   inside-steps t first rest h = test-got _ _ _ _ (full-block t first rest) ∙ bind-got _ (header-got ln 3 t first rest h)
 
   -- 4: no weather.
-  no-weather : (t : ℕ) (body : List ℕ) → eqb t (weather .tag) ≡ false → weatherAt ln t body ≡ refused 4 ln 3
-  unfolding weatherAt
-  no-weather t body e = test-refused 4 ln 3 _ e
+  no-weather : (t : ℕ) (body : List ℕ) → chosen ln t ≡ refused 4 ln 3 → weatherAt ln t body ≡ refused 4 ln 3
+  no-weather t body e = weather-tag ln t body e
 
   inside-alike : {body body′ : List ℕ} → Retagged body body′ → length body < 65_536 → Like MadeIn (inside ln body) (inside ln body′)
+  unfolding chosen
   inside-alike (tagHere left) l =
       rw (inside-head 0xC3 left, inside-head 0xC5 left)
       (like-bind _ _ (head-alike ln 3 left) (λ h g e. rw (e .1, e .2, no-weather 0xC3 (e .0 .body) refl, no-weather 0xC5 (e .0 .body) refl) (like-never _ _ bothRefused)))
