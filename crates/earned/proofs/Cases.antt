@@ -6,6 +6,7 @@ use native.Mathlib.Omega.{arith}
 use lib.Dec.{lit≤}
 use lib.IntN.{ℤ, pos, negℤ}
 use Rattle.rules.specs.Rounding.{onward, table}
+use Rattle.rules.specs.Blocks.{code}
 use Rattle.rules.specs.Curve.{Loaded, loaded}
 use Rattle.rules.specs.Report.{judgement}
 use Rattle.earned.specs.Gust.{leverBy, yBy, phi0By, startBy, uBy, eBy, netBy}
@@ -24,7 +25,7 @@ example-worked = refl
 abbrev falling : Loaded
 falling = record {
   ship = record { hullLength = 50_000; breadth = 10_000; keelArea = 0; bilge = 0 };
-  weather = record { windArea = 981; z = 150; cb = 700; flooding = 500; deckEdge = 200 };
+  weather = record { set = code; sky = record { windArea = 981; z = 150; cb = 700; flooding = 500; deckEdge = 200 } };
   w = 5_040;
   kg = 3_000;
   draught = 4_000;
@@ -40,7 +41,7 @@ falling-worked = refl
 abbrev rolling : Loaded
 rolling = record {
   ship = record { hullLength = 50_001; breadth = 10_000; keelArea = 1_230; bilge = 0 };
-  weather = record { windArea = 0; z = 0; cb = 677; flooding = 500; deckEdge = 200 };
+  weather = record { set = code; sky = record { windArea = 0; z = 0; cb = 677; flooding = 500; deckEdge = 200 } };
   w = 1_400_000;
   kg = 4_000;
   draught = 4_100;

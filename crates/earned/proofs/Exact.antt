@@ -169,7 +169,7 @@ module _ (R : Reading) (limits : Limits R) (judged : weighed R ≡ got tt) where
     kn = λ i. omega (arith, each (over R) (λ i. between (R .rows) (λ v. getD (v .kn) i 0) (weight R)) (λ i. column (λ v. getD (v .kn) i 0) R) (λ i. table-down (λ v. getD (v .kn) i 0)) stations i);
     km = omega (arith, table-down (λ v. v .km));
     kg = omega (arith, kg-less (total moment (entriesOf R) + total freeSurface (entriesOf R)) (correctedKG (entriesOf R)) (weight R) (gapAt (R .rows) (weight R)) (kg-up (entriesOf R) some .over));
-    lw1 = omega (arith, lw1-less (5040 * R .condition .weather .windArea * R .condition .weather .z) (lw1 (loaded R)) (weight R) (gapAt (R .rows) (weight R)) (lw1-up (loaded R) some .over));
+    lw1 = omega (arith, lw1-less (5040 * R .condition .weather .sky .windArea * R .condition .weather .sky .z) (lw1 (loaded R)) (weight R) (gapAt (R .rows) (weight R)) (lw1-up (loaded R) some .over));
   }
     where
       each : (D : ℕ) (f g : ℕ → ℕ) → ((n : ℕ) → D * f n ≤ g n) → (l : List ℕ) (k : ℕ) → D * getD (map f l) k 0 ≤ getD (map g l) k 0

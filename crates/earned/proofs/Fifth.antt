@@ -10,9 +10,9 @@ use lib.ListN.{getD}
 use lib.IntN.{ℤ, subℕ}
 use borrow.Author.Tests.{leb-true, le-leb}
 use Rattle.rules.specs.Rounding.{peak}
-use Rattle.rules.specs.Blocks.{Weather, weather, ok, within}
+use Rattle.rules.specs.Blocks.{Weather, weather, okWeather, ok, within}
 use Rattle.rules.specs.Curve.{Loaded, fifty, sines, lever, leverZ}
-use Rattle.rules.specs.Criteria.{code, angleOfGreatest, passes5}
+use Rattle.rules.specs.Criteria.{set, angleOfGreatest, passes5}
 use Rattle.rules.specs.Ranges.{Fair}
 use Rattle.rules.proofs.rounding.Signed.{up, dn, sub≡}
 use Rattle.rules.proofs.layout.Fields.{both-true, Limited, limited}
@@ -82,10 +82,10 @@ module _ (m n : ℕ) (h h′ : Hull) (better : Better m n h h′) (same : (i : �
   angle-order some e l = no-earlier m n some (lever (h .kn) (h .kg)) (lever (h′ .kn) (h′ .kg)) 0 e (λ j k p q. gains j k p (omega arith))
 
 -- ---- the flooding angle is at most 60 degrees
-flooding-to : (c : Weather) → ok weather c ≡ true → c .flooding ≤ 600
+flooding-to : (w : Weather) → okWeather w ≡ true → w .sky .flooding ≤ 600
 unfolding ok Limited
-flooding-to c h = limited (weather .fields) (weather .listed c) (both-true (within (weather .fields) (weather .listed c)) (weather .further c) h .0) .2 .2 .2 .1
+flooding-to w h = let L = weather (w .set) in limited (L .fields) (L .listed (w .sky)) (both-true (within (L .fields) (L .listed (w .sky))) (L .further (w .sky)) h .0) .2 .2 .2 .1
 
-pub fifth : (D : ℕ) → 0 < D → (h : Hull) (c : Loaded) → Fair c → Behind D h c → ((i : ℕ) → getD (h .kn) i 0 ≡ D * getD (c .kn) i 0) → passes5 c ≡ true → passesFifth (c .weather) h ≡ true
+pub fifth : (D : ℕ) → 0 < D → (h : Hull) (c : Loaded) → Fair c → Behind D h c → ((i : ℕ) → getD (h .kn) i 0 ≡ D * getD (c .kn) i 0) → passes5 c ≡ true → passesFifth (set c) (c .weather .sky) h ≡ true
 unfolding passes5 angleOfGreatest passesFifth leverZ
-fifth D some h c fair behind same p = le-leb (code .angle) (peak (lever (h .kn) (h .kg)) 0 (c .weather .flooding)) (le-trans (leb-true (code .angle) (peak (lever (c .kn) (c .kg)) 0 (c .weather .flooding)) p) (angle-order D 1 (used c) h behind (λ i. omega (arith, same i)) some (c .weather .flooding) (flooding-to (c .weather) (fair .sky))))
+fifth D some h c fair behind same p = le-leb (set c .angle) (peak (lever (h .kn) (h .kg)) 0 (c .weather .sky .flooding)) (le-trans (leb-true (set c .angle) (peak (lever (c .kn) (c .kg)) 0 (c .weather .sky .flooding)) p) (angle-order D 1 (used c) h behind (λ i. omega (arith, same i)) some (c .weather .sky .flooding) (flooding-to (c .weather) (fair .sky))))

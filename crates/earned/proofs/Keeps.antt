@@ -1,6 +1,6 @@
 -- A hull that is no worse keeps every pass of criteria 1, 2, 3, 4, 6 and 7, across denominators.
 use mathlib.Core.Path.{_≡_, refl, sym}
-use mathlib.Core.Bool.{Bool, true, false, _&&_}
+use mathlib.Core.Bool.{Bool, true, false, not, _&&_, _||_}
 use mathlib.Core.List.{List, [], _∷_, map}
 use Prim.Native.Nat.{ℕ, zero, suc, _-_, _*_, _≤_, _<_, min}
 use native.Mathlib.Omega.{arith}
@@ -11,10 +11,11 @@ use lib.IntN.{ℤ, pos, subℕ}
 use lib.Signed.{leZ}
 use borrow.Author.Tests.{leb-true, le-leb}
 use Rattle.rules.specs.Rounding.{peak}
-use Rattle.rules.specs.Blocks.{Weather}
+use Rattle.rules.specs.Blocks.{Sky}
 use Rattle.rules.specs.Curve.{Loaded, area}
 use Rattle.rules.specs.Criteria as criteria
-use Rattle.rules.specs.Criteria.{code, passes1, passes2, passes3, passes4, passes6, passes7, area1, area2, area3}
+use Rattle.rules.specs.Criteria.{Criteria, set, passes1, passes2, passes3, passes4, passes6, passes7, area1, area2, area3}
+use Rattle.rules.specs.Report.{pass, slot, verdict}
 use Rattle.rules.proofs.rounding.Signed.{at-least, le-true}
 use Rattle.earned.specs.Order.{NoLess, Hull, Better, finer, curve, Follows}
 use Rattle.earned.specs.Verdicts.{Criterion, one, two, three, four, six, seven, limitOver, greatestLever, phi0, passesOver, passes, used, Behind}
@@ -26,11 +27,21 @@ both true b true b′ f g h = g h
 both true b false b′ f g h = f refl
 both false b a′ b′ f g h = let z : _≡_ {A = ℕ} 0 1 = cc in absurd (omega arith)
 
+either : (a b b′ : Bool) → (b ≡ true → b′ ≡ true) → a || b ≡ true → a || b′ ≡ true
+either true b b′ g h = refl
+either false b b′ g h = g h
+
 less : (a b n : ℕ) → b ≤ a → leb a n ≡ true → leb b n ≡ true
 less a b n l h = le-leb b n (omega (arith, leb-true a n h))
 
+-- A slot that reads pass.
+pub asked : (used passed : Bool) → slot used (verdict passed) ≡ pass → (used ≡ true) × (passed ≡ true)
+asked true true e = (refl, refl)
+asked true false e = absurd (let z : _≡_ {A = ℕ} 0 1 = cc in omega arith)
+asked false passed e = absurd (let z : _≡_ {A = ℕ} 0 1 = cc in omega arith)
+
 -- ---- from the denominator D to D′, under one sky
-module _ (m n D D′ : ℕ) (some : 0 < n) (scale : n * D′ ≤ m * D) (c : Weather) (h h′ : Hull) (better : Better m n h h′) where
+module _ (m n D D′ : ℕ) (some : 0 < n) (scale : n * D′ ≤ m * D) (s : Criteria) (c : Sky) (h h′ : Hull) (better : Better m n h h′) where
   follows : Follows m n (curve h) (curve h′)
   follows = order m n some h h′ better
 
@@ -43,43 +54,52 @@ module _ (m n D D′ : ℕ) (some : 0 < n) (scale : n * D′ ≤ m * D) (c : Wea
   area-keeps : (l p q : ℕ) → leZ (pos (limitOver D l)) (area (curve h) (pos p) (pos q)) ≡ true → leZ (pos (limitOver D′ l)) (area (curve h′) (pos p) (pos q)) ≡ true
   area-keeps l p q = at-least-so l (area (curve h) (pos p) (pos q)) (area (curve h′) (pos p) (pos q)) (follows .areas p q)
 
-  greatest-keeps : (e : ℕ) → NoLess m n (greatestLever e h) (greatestLever e h′)
+  greatest-keeps : (e : ℕ) → NoLess m n (greatestLever (s .from) e h) (greatestLever (s .from) e h′)
   unfolding greatestLever
-  greatest-keeps e = go (ltb e 300)
+  greatest-keeps e = go (ltb e (s .from))
     where
-      go : (b : Bool) → NoLess m n (elim b [ true ↦ pos 0 | false ↦ curve h (pos (peak (λ t. curve h (pos t)) 300 (e - 300))) ]) (elim b [ true ↦ pos 0 | false ↦ curve h′ (pos (peak (λ t. curve h′ (pos t)) 300 (e - 300))) ])
+      go : (b : Bool) → NoLess m n (elim b [ true ↦ pos 0 | false ↦ curve h (pos (peak (λ t. curve h (pos t)) (s .from) (e - s .from))) ]) (elim b [ true ↦ pos 0 | false ↦ curve h′ (pos (peak (λ t. curve h′ (pos t)) (s .from) (e - s .from))) ])
       go true = omega arith
-      go false = follows .greatest 300 (e - 300)
+      go false = follows .greatest (s .from) (e - s .from)
 
   heel-keeps : (e : ℕ) → phi0 e h′ ≤ phi0 e h
   unfolding phi0
   heel-keeps e = follows .level (5_000_000 * h .lw1) (5_000_000 * h′ .lw1) (omega (arith, better .lw1)) 0 e
 
-  pub keeps : (k : Criterion) → passesOver D k c h ≡ true → passesOver D′ k c h′ ≡ true
+  pub keeps : (k : Criterion) → passesOver D k s c h ≡ true → passesOver D′ k s c h′ ≡ true
   unfolding passesOver
-  keeps one = area-keeps (code .area1) 0 (min 300 (c .flooding))
-  keeps two = area-keeps (code .area2) 300 (min 400 (c .flooding))
-  keeps three = area-keeps (code .area3) 0 (min 400 (c .flooding))
-  keeps four = both (leb 300 (c .flooding)) (leZ (pos (limitOver D (code .lever))) (greatestLever (c .flooding) h)) (leb 300 (c .flooding)) (leZ (pos (limitOver D′ (code .lever))) (greatestLever (c .flooding) h′)) (λ p. p) (at-least-so (code .lever) (greatestLever (c .flooding) h) (greatestLever (c .flooding) h′) (greatest-keeps (c .flooding)))
-  keeps six = at-least-so (code .gm) (subℕ (h .km) (h .kg)) (subℕ (h′ .km) (h′ .kg)) (difference m n (h .km) (h .kg) (h′ .km) (h′ .kg) (better .km) (omega (arith, better .kg)))
+  keeps one = area-keeps (s .area1) 0 (min 300 (c .flooding))
+  keeps two = area-keeps (s .area2) 300 (min 400 (c .flooding))
+  keeps three = area-keeps (s .area3) 0 (min 400 (c .flooding))
+  keeps four =
+      both (leb (s .from) (c .flooding)) (leZ (pos (limitOver D (s .lever))) (greatestLever (s .from) (c .flooding) h)) (leb (s .from) (c .flooding)) (leZ (pos (limitOver D′ (s .lever))) (greatestLever (s .from) (c .flooding) h′)) (λ p. p)
+      (at-least-so (s .lever) (greatestLever (s .from) (c .flooding) h) (greatestLever (s .from) (c .flooding) h′) (greatest-keeps (c .flooding)))
+  keeps six = at-least-so (s .gm) (subℕ (h .km) (h .kg)) (subℕ (h′ .km) (h′ .kg)) (difference m n (h .km) (h .kg) (h′ .km) (h′ .kg) (better .km) (omega (arith, better .kg)))
   keeps seven = go (phi0 (c .flooding) h) (phi0 (c .flooding) h′) (heel-keeps (c .flooding))
     where
-      go : (a b : ℕ) → b ≤ a → leb a (c .flooding) && leb a (code .heel) && leb (10 * a) (8 * c .deckEdge) ≡ true → leb b (c .flooding) && leb b (code .heel) && leb (10 * b) (8 * c .deckEdge) ≡ true
-      go a b l = both (leb a (c .flooding) && leb a (code .heel)) (leb (10 * a) (8 * c .deckEdge)) (leb b (c .flooding) && leb b (code .heel)) (leb (10 * b) (8 * c .deckEdge)) (both (leb a (c .flooding)) (leb a (code .heel)) (leb b (c .flooding)) (leb b (code .heel)) (less a b (c .flooding) l) (less a b (code .heel) l)) (less (10 * a) (10 * b) (8 * c .deckEdge) (omega arith))
+      go : (a b : ℕ) → b ≤ a → leb a (c .flooding) && leb a (s .heel) && (not (s .deck) || leb (10 * a) (8 * c .deckEdge)) ≡ true
+          → leb b (c .flooding) && leb b (s .heel) && (not (s .deck) || leb (10 * b) (8 * c .deckEdge)) ≡ true
+      go a b l =
+          both (leb a (c .flooding) && leb a (s .heel)) (not (s .deck) || leb (10 * a) (8 * c .deckEdge)) (leb b (c .flooding) && leb b (s .heel)) (not (s .deck) || leb (10 * b) (8 * c .deckEdge))
+          (both (leb a (c .flooding)) (leb a (s .heel)) (leb b (c .flooding)) (leb b (s .heel)) (less a b (c .flooding) l) (less a b (s .heel) l))
+          (either (not (s .deck)) (leb (10 * a) (8 * c .deckEdge)) (leb (10 * b) (8 * c .deckEdge)) (less (10 * a) (10 * b) (8 * c .deckEdge) (omega arith)))
 
 -- ---- the judgement's verdicts are these, over 1
-pub over-one : (k : Criterion) (c : Loaded) → passesOver 1 k (c .weather) (used c) ≡ passes k c
+once : (l : ℕ) → limitOver 1 l ≡ l
+once l = omega arith
+
+pub over-one : (k : Criterion) (c : Loaded) → passesOver 1 k (set c) (c .weather .sky) (used c) ≡ passes k c
 unfolding passesOver greatestLever phi0 passes1 passes2 passes3 passes4 passes6 passes7 area1 area2 area3 criteria.greatestLever criteria.phi0
-over-one one c = refl
-over-one two c = refl
-over-one three c = refl
-over-one four c = refl
-over-one six c = refl
+over-one one c = rw (once (set c .area1))
+over-one two c = rw (once (set c .area2))
+over-one three c = rw (once (set c .area3))
+over-one four c = rw (once (set c .lever))
+over-one six c = rw (once (set c .gm))
 over-one seven c = refl
 
 -- A pass with the numbers used is a pass with any exact values behind them.
-pub earned : (D : ℕ) (h : Hull) (c : Loaded) → Behind D h c → (k : Criterion) → passes k c ≡ true → passesOver D k (c .weather) h ≡ true
-earned D h c b k p = keeps D 1 1 D (omega arith) (omega arith) (c .weather) (used c) h b k (rw over-one p)
+pub earned : (D : ℕ) (h : Hull) (c : Loaded) → Behind D h c → (k : Criterion) → passes k c ≡ true → passesOver D k (set c) (c .weather .sky) h ≡ true
+earned D h c b k p = keeps D 1 1 D (omega arith) (omega arith) (set c) (c .weather .sky) (used c) h b k (rw over-one p)
 
 -- ---- the verdict does not depend on the denominator
 getD-finer : (S : ℕ) (l : List ℕ) (i : ℕ) → getD (map (λ v. S * v) l) i 0 ≡ S * getD l i 0
@@ -87,10 +107,10 @@ getD-finer S [] i = sym (mul-zero S)
 getD-finer S (v ∷ l) zero = refl
 getD-finer S (v ∷ l) (suc i) = getD-finer S l i
 
-pub same-verdict : (S D : ℕ) → 0 < S → (c : Weather) (h : Hull) (k : Criterion) → passesOver (S * D) k c (finer S h) ≡ passesOver D k c h
-same-verdict S D some c h k = same (passesOver (S * D) k c (finer S h)) (passesOver D k c h)
-    (keeps 1 S (S * D) D some (omega arith) c (finer S h) h (record { kn = λ i. omega (arith, getD-finer S (h .kn) i); km = omega arith; kg = omega arith; lw1 = omega arith }) k)
-    (keeps S 1 D (S * D) (omega arith) (omega arith) c h (finer S h) (record { kn = λ i. omega (arith, getD-finer S (h .kn) i); km = omega arith; kg = omega arith; lw1 = omega arith }) k)
+pub same-verdict : (S D : ℕ) → 0 < S → (s : Criteria) (c : Sky) (h : Hull) (k : Criterion) → passesOver (S * D) k s c (finer S h) ≡ passesOver D k s c h
+same-verdict S D some s c h k = same (passesOver (S * D) k s c (finer S h)) (passesOver D k s c h)
+    (keeps 1 S (S * D) D some (omega arith) s c (finer S h) h (record { kn = λ i. omega (arith, getD-finer S (h .kn) i); km = omega arith; kg = omega arith; lw1 = omega arith }) k)
+    (keeps S 1 D (S * D) (omega arith) (omega arith) s c h (finer S h) (record { kn = λ i. omega (arith, getD-finer S (h .kn) i); km = omega arith; kg = omega arith; lw1 = omega arith }) k)
   where
     same : (a b : Bool) → (a ≡ true → b ≡ true) → (b ≡ true → a ≡ true) → a ≡ b
     same true b f g = sym (f refl)

@@ -1,23 +1,23 @@
 -- Which roundings favour the ship: what is proved, to be read without the proofs. Each theorem has a sentence above it, and its proof stands elsewhere.
 -- Its words are defined in specs/: Order (hulls over a denominator), Verdicts (criteria 1 to 4, 6 and 7 over one), Exact (the values of a reading before they are rounded), Limits (metre-radians), Gust (criteria 7 and 8 at parts of a tenth), Rolling (the roll before it is rounded).
-use mathlib.Core.Path.{_≡_, refl}
+use mathlib.Core.Path.{_≡_, refl, sym, _∙_}
 use mathlib.Core.Bool.{true, false}
 use mathlib.Core.List.{[], _∷_}
-use Prim.Native.Nat.{ℕ, _+_, _-_, _*_, _≤_, _<_}
+use Prim.Native.Nat.{ℕ, suc, _+_, _-_, _*_, _≤_, _<_}
 use native.Mathlib.Omega.{arith}
 use lib.ListN.{getD, replicate}
 use lib.IntN.{ℤ, pos, negℤ, _+ℤ_, _*ℤ_}
 use lib.Signed.{leZ}
 use Rattle.rules.specs.Rounding.{sumZ}
-use Rattle.rules.specs.Blocks.{Weather}
+use Rattle.rules.specs.Blocks.{code, timber, Sky}
 use Rattle.rules.specs.Layout.{Reading, Limits}
 use Rattle.rules.specs.Outcome.{got}
 use Rattle.rules.specs.Walk.{read}
 use Rattle.rules.specs.Loading.{weighed}
 use Rattle.rules.specs.Curve.{Loaded, E, loaded}
-use Rattle.rules.specs.Criteria.{code, lw1, phi0, passes5, passes7}
+use Rattle.rules.specs.Criteria.{Criteria, limitsOf, set, uses, lw1, phi0, passes5, passes7}
 use Rattle.rules.specs.Roll.{period, phi1, start, e, net, notJudged, noGust}
-use Rattle.rules.specs.Report.{pass, void, verdict, verdict8, judgement}
+use Rattle.rules.specs.Report.{pass, void, slot, verdict, verdict8, judgement}
 use Rattle.rules.specs.Ranges.{Fair}
 use Rattle.rules.specs.Answer.{answered}
 use Rattle.rules.proofs.rounding.Signed.{Le, le-true, up-mull, dn-mull}
@@ -53,7 +53,7 @@ order-is m n a b h = le-true (pos m *ℤ a) (pos n *ℤ b) (omega (arith, up-mul
 
 -- ---- criteria 1, 2, 3, 4, 6 and 7
 -- The verdicts below are those of the judgement.
-pub verdict-is : (k : Criterion) (c : Loaded) → getD (judgement c .verdicts) (place k) void ≡ verdict (passes k c)
+pub verdict-is : (k : Criterion) (c : Loaded) → getD (judgement c .verdicts) (place k) void ≡ slot (uses c (suc (place k))) (verdict (passes k c))
 unfolding judgement
 verdict-is one c = refl
 verdict-is two c = refl
@@ -62,16 +62,20 @@ verdict-is four c = refl
 verdict-is six c = refl
 verdict-is seven c = refl
 
+-- And so what the report says to pass, its set uses and asks.
+pub pass-is-asked : (k : Criterion) (c : Loaded) → getD (judgement c .verdicts) (place k) void ≡ pass → (uses c (suc (place k)) ≡ true) × (passes k c ≡ true)
+pass-is-asked k c e = keeping.asked (uses c (suc (place k))) (passes k c) (sym (verdict-is k c) ∙ e)
+
 -- Take any exact values, over any denominator, that were rounded to those used: KG and lw1 no greater, KN and KM no less. A pass with the numbers used is a pass with the exact ones. So none of these six is owed to a rounding of KG, KN, KM or lw1.
-pub pass-is-earned : (D : ℕ) (h : Hull) (c : Loaded) → Behind D h c → (k : Criterion) → passes k c ≡ true → passesOver D k (c .weather) h ≡ true
+pub pass-is-earned : (D : ℕ) (h : Hull) (c : Loaded) → Behind D h c → (k : Criterion) → passes k c ≡ true → passesOver D k (set c) (c .weather .sky) h ≡ true
 pass-is-earned = keeping.earned
 
 -- Over 1, with the numbers used, the exact verdict is the judgement's own.
-pub over-one : (k : Criterion) (c : Loaded) → passesOver 1 k (c .weather) (used c) ≡ passes k c
+pub over-one : (k : Criterion) (c : Loaded) → passesOver 1 k (set c) (c .weather .sky) (used c) ≡ passes k c
 over-one = keeping.over-one
 
 -- The denominator does not matter: every number S times as fine gives the same verdict.
-pub same-verdict : (S D : ℕ) → 0 < S → (c : Weather) (h : Hull) (k : Criterion) → passesOver (S * D) k c (finer S h) ≡ passesOver D k c h
+pub same-verdict : (S D : ℕ) → 0 < S → (s : Criteria) (c : Sky) (h : Hull) (k : Criterion) → passesOver (S * D) k s c (finer S h) ≡ passesOver D k s c h
 same-verdict = keeping.same-verdict
 
 -- The exact values of a reading that is judged are such values.
@@ -83,11 +87,11 @@ pub exact-fractions : (R : Reading) → Limits R → Fractions R (exact R)
 exact-fractions = exacts.exact-fractions
 
 -- So for a reading: a pass of one of the six is a pass with its exact values.
-pub reading-is-earned : (R : Reading) → Limits R → weighed R ≡ got tt → (k : Criterion) → passes k (loaded R) ≡ true → passesOver (over R) k (loaded R .weather) (exact R) ≡ true
+pub reading-is-earned : (R : Reading) → Limits R → weighed R ≡ got tt → (k : Criterion) → passes k (loaded R) ≡ true → passesOver (over R) k (set (loaded R)) (loaded R .weather .sky) (exact R) ≡ true
 reading-is-earned R l w = keeping.earned (over R) (exact R) (loaded R) (exacts.exact-behind R l w)
 
 -- Criterion 5 is not among them, for a KN rounded down can move the greatest lever out. But with KN as used, no pass of it is owed to the rounding of KG.
-pub fifth-is-earned : (D : ℕ) → 0 < D → (h : Hull) (c : Loaded) → Fair c → Behind D h c → ((i : ℕ) → getD (h .kn) i 0 ≡ D * getD (c .kn) i 0) → passes5 c ≡ true → passesFifth (c .weather) h ≡ true
+pub fifth-is-earned : (D : ℕ) → 0 < D → (h : Hull) (c : Loaded) → Fair c → Behind D h c → ((i : ℕ) → getD (h .kn) i 0 ≡ D * getD (c .kn) i 0) → passes5 c ≡ true → passesFifth (set c) (c .weather .sky) h ≡ true
 fifth-is-earned = angle.fifth
 
 -- The heel that criterion 7 judges is no less than the exact one, and by less than a tenth: at any parts of a tenth, the first part at which the curve has lw1 or more.
@@ -103,12 +107,12 @@ pub seventh-is-earned : (R : Reading) → Limits R → weighed R ≡ got tt → 
 seventh-is-earned R l w v q some = heel.seventh q some (loaded R) (upright (loaded R) (fair R l w)) v
 
 -- ---- the limits of criteria 1 to 3
--- For every value of pi from 3.1415926 on they are at least 0.055, 0.03 and 0.09 m·rad.
-pub limits-cover : (num den : ℕ) → PiFrom num den → Covers num den (code .area1) 55 × Covers num den (code .area2) 30 × Covers num den (code .area3) 90
+-- For every value of pi from 3.1415926 on they are at least 0.055, 0.03 and 0.09 m·rad; with timber on deck that of criterion 3 is at least 0.08.
+pub limits-cover : (num den : ℕ) → PiFrom num den → Covers num den (limitsOf code .area1) 55 × Covers num den (limitsOf code .area2) 30 × Covers num den (limitsOf code .area3) 90 × Covers num den (limitsOf timber .area3) 80
 limits-cover = limits.limits-cover
 
 -- And by less than 100,000 y units, a millionth of a metre-degree: so much less would not do.
-pub limits-least : (num den : ℕ) → 0 < den → PiTo num den → (¬ Covers num den (code .area1 - 100_000) 55) × (¬ Covers num den (code .area2 - 100_000) 30) × (¬ Covers num den (code .area3 - 100_000) 90)
+pub limits-least : (num den : ℕ) → 0 < den → PiTo num den → (¬ Covers num den (limitsOf code .area1 - 100_000) 55) × (¬ Covers num den (limitsOf code .area2 - 100_000) 30) × (¬ Covers num den (limitsOf code .area3 - 100_000) 90) × (¬ Covers num den (limitsOf timber .area3 - 100_000) 80)
 limits-least = limits.limits-least
 
 -- ---- criterion 8

@@ -43,7 +43,7 @@ module _ (c : Loaded) (f : Fair c) (j : Judged c) (M : ℕ) where
 
   x2-least : exactX2 M c ≤ M * x2 c
   unfolding exactX2 x2
-  x2-least = let e : 1 * c .weather .cb ≡ c .weather .cb = omega arith in subst (λ (x : ℕ). table up (finerTable 1 M X2) x ≤ M * table up X2 (c .weather .cb)) e (table-finer 1 M (omega arith) X2 refl (c .weather .cb))
+  x2-least = let e : 1 * c .weather .sky .cb ≡ c .weather .sky .cb = omega arith in subst (λ (x : ℕ). table up (finerTable 1 M X2) x ≤ M * table up X2 (c .weather .sky .cb)) e (table-finer 1 M (omega arith) X2 refl (c .weather .sky .cb))
 
   k-least : exactK M c ≤ M * k c
   unfolding exactK k

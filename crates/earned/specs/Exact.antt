@@ -51,7 +51,7 @@ exact r = record {
   kn = map (λ i. column (λ v. getD (v .kn) i 0) r) stations;
   km = column (λ v. v .km) r;
   kg = (total moment (entriesOf r) + total freeSurface (entriesOf r)) * (gapAt (r .rows) (weight r) * 981);
-  lw1 = 5040 * r .condition .weather .windArea * r .condition .weather .z * gapAt (r .rows) (weight r);
+  lw1 = 5040 * r .condition .weather .sky .windArea * r .condition .weather .sky .z * gapAt (r .rows) (weight r);
 }
 
 -- ---- what makes them exact: each is its fraction, with nothing rounded
@@ -63,4 +63,4 @@ pub record Fractions (R : Reading) (h : Hull) : Type 0 where
   pub kn : (i : ℕ) → i < 13 → Straight R (λ v. getD (v .kn) i 0) (getD (h .kn) i 0)
   pub km : Straight R (λ v. v .km) (h .km)
   pub kg : h .kg * weight R ≡ (total moment (entriesOf R) + total freeSurface (entriesOf R)) * over R
-  pub lw1 : h .lw1 * (981 * weight R) ≡ 5040 * R .condition .weather .windArea * R .condition .weather .z * over R
+  pub lw1 : h .lw1 * (981 * weight R) ≡ 5040 * R .condition .weather .sky .windArea * R .condition .weather .sky .z * over R

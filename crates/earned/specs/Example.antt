@@ -1,7 +1,7 @@
 -- A text whose curve lies below -lw2 at small angles, and its reading.
 use mathlib.Core.List.{List, [], _∷_}
 use Prim.Native.Nat.{ℕ}
-use Rattle.rules.specs.Blocks.{Row, item}
+use Rattle.rules.specs.Blocks.{Row, code, item}
 use Rattle.rules.specs.Layout.{Reading, end, leaf}
 use Rattle.rules.proofs.bench.Cases.{lines}
 
@@ -21,7 +21,7 @@ reading = record {
   ship = record { hullLength = 120_000; breadth = 30_000; keelArea = 0; bilge = 0 };
   rows = rowOf 30_000_000 ∷ rowOf 40_000_000 ∷ [];
   condition = record {
-    weather = record { windArea = 140_000; z = 9_000; cb = 600; flooding = 450; deckEdge = 300 };
+    weather = record { set = code; sky = record { windArea = 140_000; z = 9_000; cb = 600; flooding = 450; deckEdge = 300 } };
     load = leaf item (record { mass = 30_000_000; centre = 16_000 }) end;
   };
 }

@@ -1,12 +1,13 @@
 -- The heel of criterion 7, and criterion 8 against the Code's b - a: 01's own sentences, with a q-th part of a tenth of a degree where they say a tenth. The wind levers are those used, and the roll is phi1 or less.
 -- At q-ths y is q times as high, and an area q² times as great.
 use mathlib.Core.Path.{_≡_}
+use mathlib.Core.Bool.{true}
 use mathlib.Core.List.{List}
 use Prim.Native.Nat.{ℕ, suc, _+_, _-_, _*_, _/_, _%_, _≤_, _<_}
 use lib.ListN.{getD}
 use lib.IntN.{ℤ, pos, negsuc, negℤ, subℕ, _+ℤ_, _-ℤ_, _*ℤ_}
 use Rattle.rules.specs.Curve.{Loaded, sines, y, E, area}
-use Rattle.rules.specs.Criteria.{code, lw1, lw2, units, reaches}
+use Rattle.rules.specs.Criteria.{set, lw1, lw2, units, reaches}
 use Rattle.rules.specs.Roll.{start, farthest, stays}
 use Rattle.rules.proofs.rounding.Signed.{Le}
 
@@ -31,11 +32,11 @@ unitsBy q l = pos (q * (5_000_000 * l))
 unfoldable pub phi0By : ℕ → Loaded → ℕ
 phi0By q c = reaches (yBy q c) (unitsBy q (lw1 c)) 0 (q * E c)
 
--- Criterion 7 at q-ths: 'Pass: phi0 <= 160 and 10 phi0 <= 8 x deck edge', and none is no pass.
+-- Criterion 7 at q-ths: 'Pass: phi0 <= 160 and 10 phi0 <= 8 x deck edge', and none is no pass; the deck edge where the set counts it.
 pub record PassesAt (q : ℕ) (c : Loaded) : Type 0 where
   pub reached : phi0By q c ≤ q * E c
-  pub upright : phi0By q c ≤ q * code .heel
-  pub dry : 10 * phi0By q c ≤ q * (8 * c .weather .deckEdge)
+  pub upright : phi0By q c ≤ q * set c .heel
+  pub dry : set c .deck ≡ true → 10 * phi0By q c ≤ q * (8 * c .weather .sky .deckEdge)
 
 -- The Code's start: phi0 less the roll, in q-ths too.
 unfoldable pub startBy : ℕ → ℕ → Loaded → ℤ

@@ -17,7 +17,7 @@ unfoldable pub exactX1 : ℕ → Loaded → ℕ
 exactX1 M c = table up (finerTable (c .draught) M X1) (1000 * c .ship .breadth)
 
 unfoldable pub exactX2 : ℕ → Loaded → ℕ
-exactX2 M c = table up (finerTable 1 M X2) (c .weather .cb)
+exactX2 M c = table up (finerTable 1 M X2) (c .weather .sky .cb)
 
 -- k at 10^9 x area / (L B).
 unfoldable pub exactK : ℕ → Loaded → ℕ
