@@ -6,7 +6,7 @@ use Prim.Native.Nat.{ℕ, _≤_}
 use native.Mathlib.Omega.{arith}
 use lib.ListN.{replicate}
 use lib.Dec.{ltb, leb, eqb}
-use Rattle.rules.specs.Blocks.{field, within, ok, ship, row, weather, TankKind, item, tank, entry}
+use Rattle.rules.specs.Blocks.{field, within, ok, ship, row, Set, weather, TankKind, item, tank, entry}
 use Rattle.rules.proofs.layout.Fields.{both-true, Limited, limited}
 
 abbrev pub fit : ℕ → ℕ → ℕ → Bool
@@ -24,9 +24,9 @@ pub ok-tank : (k : TankKind) (m c f d i : ℕ) → ok (entry (tank k)) (record {
 unfolding ok within
 ok-tank k m c f d i = simp and-right
 
-pub ok-weather : (a z b f d : ℕ) → ok weather (record { windArea = a; z = z; cb = b; flooding = f; deckEdge = d }) ≡ (fit a 0 300_000 && (fit z 0 60_000 && (fit b 200 1_000 && (fit f 0 600 && fit d 1 600))))
+pub ok-weather : (s : Set) (a z b f d : ℕ) → ok (weather s) (record { windArea = a; z = z; cb = b; flooding = f; deckEdge = d }) ≡ (fit a 0 300_000 && (fit z 0 60_000 && (fit b 200 1_000 && (fit f 0 600 && fit d 1 600))))
 unfolding ok within
-ok-weather a z b f d = simp and-right
+ok-weather s a z b f d = simp and-right
 
 pub ok-ship : (l b k r : ℕ) → ok ship (record { hullLength = l; breadth = b; keelArea = k; bilge = r }) ≡ (fit l 24_000 400_000 && (fit b 3_000 70_000 && (fit k 0 20_000 && fit r 0 1)))
 unfolding ok within

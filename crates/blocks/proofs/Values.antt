@@ -4,7 +4,7 @@ use mathlib.Core.List.{List}
 use Prim.Native.Nat.{ℕ}
 use native.Mathlib.Omega.{arith}
 use lib.ListN.{length, getD}
-use Rattle.rules.specs.Blocks.{values, ship, row, weather, TankKind, item, tank, entry}
+use Rattle.rules.specs.Blocks.{values, ship, row, Set, weather, TankKind, item, tank, entry}
 use Rattle.rules.specs.Parts.{be2, be4, valuesAt}
 use Rattle.rules.proofs.layout.Parts.{num-one, num-two, num-four, values-at}
 
@@ -17,9 +17,9 @@ module _ (s : List ℕ) where
   unfolding valuesAt
   tank-values k h = rw (values-at (entry (tank k) .fields) 0 s, num-four s 0 (omega arith), num-two s 4 (omega arith), num-two s 6 (omega arith), num-two s 8 (omega arith), num-four s 10 (omega arith))
 
-  pub weather-values : length s ≡ 12 → weather .named (values (weather .fields) s) ≡ record { windArea = be4 s 0; z = be2 s 4; cb = be2 s 6; flooding = be2 s 8; deckEdge = be2 s 10 }
+  pub weather-values : (k : Set) → length s ≡ 12 → weather k .named (values (weather k .fields) s) ≡ record { windArea = be4 s 0; z = be2 s 4; cb = be2 s 6; flooding = be2 s 8; deckEdge = be2 s 10 }
   unfolding valuesAt
-  weather-values h = rw (values-at (weather .fields) 0 s, num-four s 0 (omega arith), num-two s 4 (omega arith), num-two s 6 (omega arith), num-two s 8 (omega arith), num-two s 10 (omega arith))
+  weather-values k h = rw (values-at (weather k .fields) 0 s, num-four s 0 (omega arith), num-two s 4 (omega arith), num-two s 6 (omega arith), num-two s 8 (omega arith), num-two s 10 (omega arith))
 
   pub ship-values : length s ≡ 13 → ship .named (values (ship .fields) s) ≡ record { hullLength = be4 s 0; breadth = be4 s 4; keelArea = be4 s 8; bilge = getD s 12 0 }
   unfolding valuesAt

@@ -7,7 +7,7 @@ use Rattle.rules.specs.Loading.{massOf, centreOf, freeSurfaceOf}
 use Rattle.rules.specs.Outcome.{Ans, refused, got}
 use Rattle.rules.specs.Walk.{Head, one, nest}
 use Rattle.rules.specs.Walk as walk
-use Rattle.book.specs.Book.{refusal, noRefusal, plainShip, plainWeather, plainRow, blankRow}
+use Rattle.book.specs.Book.{refusal, noRefusal, setOf, plainShip, plainWeather, plainRow, blankRow}
 use Rattle.book.specs.declared.Sums.{Sums}
 use Rattle.book.specs.declared.Refusal.{Refusal}
 use Rattle.blocks.specs.declared.Begun.{Begun}
@@ -24,6 +24,8 @@ use Rattle.blocks.specs.declared.entries.Held.{Held}
 use Rattle.blocks.specs.declared.entries.Held.the-variants as held
 use Rattle.blocks.specs.declared.entries.Block.{Block}
 use Rattle.blocks.specs.declared.entries.Block.the-variants as block
+use Rattle.blocks.specs.declared.weather.Choice.{Choice}
+use Rattle.blocks.specs.declared.weather.Choice.the-variants as choice
 use Rattle.blocks.specs.declared.weather.WeatherRead.{WeatherRead}
 use Rattle.blocks.specs.declared.weather.WeatherRead.the-variants as weather
 use Rattle.blocks.specs.declared.ship.ShipRead.{ShipRead}
@@ -75,6 +77,11 @@ blockOf (got (one k v)) = block.Entry (sumsOfOne k v)
 blockOf (got nest) = block.Group
 
 -- ---- weather, ship and row
+-- What a tag means where the weather stands: a set, or 4.
+abbrev pub setMeant : ℕ → Choice → Ans rules.Set
+setMeant line (choice.Set s) = got (setOf s)
+setMeant line choice.None = refused 4 line 3
+
 abbrev pub weatherRead : Ans rules.Weather → WeatherRead
 weatherRead (refused n l o) = weather.Refused (refusal n l o)
 weatherRead (got w) = weather.Within (plainWeather w)

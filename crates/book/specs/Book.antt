@@ -12,6 +12,8 @@ use Rattle.rules.specs.Outcome.{Ans, refused}
 use Rattle.book.specs.declared.Ship.{Ship}
 use Rattle.book.specs.declared.Row.{Row}
 use Rattle.book.specs.declared.Table.{Table}
+use Rattle.book.specs.declared.Set.{Set}
+use Rattle.book.specs.declared.Set.the-variants as set
 use Rattle.book.specs.declared.Weather.{Weather}
 use Rattle.book.specs.declared.Sums.{Sums}
 use Rattle.book.specs.declared.Refusal.{Refusal}
@@ -28,12 +30,24 @@ plainShip s = record { length = s .hullLength; breadth = s .breadth; keel = s .k
 abbrev pub rowOf : Row → rules.Row
 rowOf r = record { mass = r .mass; draught = r .draught; km = r .km; kn = r .kn }
 
+-- A set of criteria by its name, both ways.
+abbrev pub setOf : Set → rules.Set
+setOf set.Code = rules.code
+setOf set.Timber = rules.timber
+
+abbrev pub plainSet : rules.Set → Set
+plainSet rules.code = set.Code
+plainSet rules.timber = set.Timber
+
+abbrev pub skyOf : Weather → rules.Sky
+skyOf w = record { windArea = w .wind; z = w .z; cb = w .cb; flooding = w .flooding; deckEdge = w .deck }
+
 abbrev pub weatherOf : Weather → rules.Weather
-weatherOf w = record { windArea = w .wind; z = w .z; cb = w .cb; flooding = w .flooding; deckEdge = w .deck }
+weatherOf w = record { set = setOf (w .set); sky = skyOf w }
 
 -- The weather as plain data.
 abbrev pub plainWeather : rules.Weather → Weather
-plainWeather w = record { wind = w .windArea; z = w .z; cb = w .cb; flooding = w .flooding; deck = w .deckEdge }
+plainWeather w = record { set = plainSet (w .set); wind = w .sky .windArea; z = w .sky .z; cb = w .sky .cb; flooding = w .sky .flooding; deck = w .sky .deckEdge }
 
 -- The rows of a table.
 unfoldable pub rowsOf : Table → List rules.Row

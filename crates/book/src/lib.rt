@@ -23,8 +23,15 @@ pub struct Table {
     pub count: usize,
 }
 
-// C1.
+// The sets of criteria: C1 chooses the Code's, C6 the one for timber on deck.
+pub enum Set {
+    Code,
+    Timber,
+}
+
+// C1 or C6.
 pub struct Weather {
+    pub set: Set,
     pub wind: u64,
     pub z: u64,
     pub cb: u64,
@@ -65,7 +72,7 @@ pub struct Loaded {
     pub kn: [u64; 13],
 }
 
-// Eight verdicts by their numbers (0 fail, 1 pass, 2 not judged, 3 refused), and eleven figures.
+// Eight verdicts by their numbers (0 fail, 1 pass, 2 not judged, 3 refused, 4 unused), and eleven figures.
 pub struct Judgement {
     pub verdicts: [u8; 8],
     pub figures: [i64; 11],

@@ -133,11 +133,11 @@ unfoldable pub entries : ℕ → Walk
 entries ln d n at s = walk ln (suc (length s)) d n at s
 
 -- ---- the condition
--- The sets of criteria that a condition may choose.
+-- The sets of criteria that a text may choose.
 abbrev pub sets : List Set
 sets = code ∷ timber ∷ []
 
--- The one of these sets that a tag chooses, or 4.
+-- The one among them that a tag chooses; 4 where there is none.
 unfoldable pub among : ℕ → ℕ → List Set → Ans Set
 among ln t [] = refused 4 ln 3
 among ln t (s ∷ ss) = elim (eqb t (weather s .tag)) [ true ↦ got s | false ↦ among ln t ss ]
@@ -146,16 +146,12 @@ unfoldable pub chosen : ℕ → ℕ → Ans Set
 unfolding among
 chosen ln t = among ln t sets
 
--- Its first block is the weather: 4, then 3, 6. It stands at offset 3.
-unfoldable pub weatherIn : ℕ → Set → List ℕ → Ans Weather
-weatherIn ln s body = do
-  v ← fixed ln (weather s) true 3 body
-  got (record { set = s; sky = v })
-
+-- Its first block is the weather: 4, 3, 6. It stands at offset 3.
 unfoldable pub weatherAt : ℕ → ℕ → List ℕ → Ans Weather
 weatherAt ln t body = do
   s ← chosen ln t
-  weatherIn ln s body
+  v ← fixed ln (weather s) true 3 body
+  got (record { set = s; sky = v })
 
 -- 5: 'a C1 alone'. Otherwise the entries, of which the first stands at offset `at`.
 unfoldable pub loadAt : ℕ → ℕ → List ℕ → Ans Entries
@@ -265,7 +261,7 @@ readFrames (l ∷ ls) = do
 
 -- A text gives a reading or a refusal. (To unfold `read` is to unfold all of the walk; each step above unfolds alone.)
 unfoldable pub read : List ℕ → Ans Reading
-unfolding nibble unhex put split decode linesFrom header num fixed ok within values size tagOf begun blockAt leaves step walk entries chosen weatherIn weatherAt loadAt inside conditionIn fixedIn shipFrame rowIn frameOf found frameAt closed after tail readFrames test _>>=_ _>>_
+unfolding nibble unhex put split decode linesFrom header num fixed ok within values size tagOf begun blockAt leaves step walk entries chosen weatherAt loadAt inside conditionIn fixedIn shipFrame rowIn frameOf found frameAt closed after tail readFrames test _>>=_ _>>_
 read t = do
   test (leb (length t) mostCharacters) 1 0 0
   ls ← linesFrom 1 t

@@ -11,7 +11,7 @@ use Rattle.rules.specs.Numbers.{Bytes, full}
 use Rattle.rules.specs.Blocks.{block, spellValues, spellBlock, Set, code, timber, weather, Weather, okWeather, spellWeather}
 use Rattle.rules.specs.Layout.{Condition, spell, spellCondition, mostDepth, mostEntries, mostBytes, ConditionLimits}
 use Rattle.rules.specs.Outcome.{got}
-use Rattle.rules.specs.Walk.{sets, among, chosen, weatherIn, weatherAt, loadAt, inside}
+use Rattle.rules.specs.Walk.{sets, among, chosen, weatherAt, loadAt, inside}
 use Rattle.rules.proofs.layout.Numbers.{Bytes-append}
 use Rattle.rules.proofs.walk.Outcome.{refused-got, bind-inv, test-inv, bind-got, test-got}
 use Rattle.rules.proofs.layout.Fields.{weather-lawful}
@@ -53,7 +53,7 @@ chosen-got ln timber = refl
 
 -- What stands as the weather, is read as it.
 pub weather-sound : (ln t : ℕ) (body : List ℕ) (w : Weather) → Bytes body → weatherAt ln t body ≡ got w → (spellWeather w ≡ block t body) × (okWeather w ≡ true)
-unfolding weatherAt weatherIn spellBlock
+unfolding weatherAt spellBlock
 weather-sound ln t body w B e =
     let s = bind-inv _ _ e in
     let v = bind-inv _ _ (s .2) in
@@ -62,7 +62,7 @@ weather-sound ln t body w B e =
     rw (← q) (ap₂ block (chosen-sound ln t (s .0) (s .1)) (f .0), f .2)
 
 pub weather-got : (ln : ℕ) (w : Weather) → okWeather w ≡ true → weatherAt ln (weather (w .set) .tag) (weatherBody w) ≡ got w
-unfolding weatherAt weatherIn
+unfolding weatherAt
 weather-got ln w h = bind-got _ (chosen-got ln (w .set)) ∙ bind-got _ (fixed-got ln 3 (weather (w .set)) (weather-lawful (w .set)) true (w .sky) refl h)
 
 pub inside-sound : (ln : ℕ) (body : List ℕ) (c : Condition) → Bytes body → length body ≤ mostBytes → inside ln body ≡ got c → (spellCondition c ≡ body) × ConditionLimits c

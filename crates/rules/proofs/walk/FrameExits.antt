@@ -10,7 +10,7 @@ use borrow.Author.Tests.{lt-ltb, le-ltb, le-leb, lt-leb, eq-eqb, ne-eqb}
 use Rattle.rules.specs.Blocks.{Layout, size, ok, values, ship, Row, row, conditionTag, Set, code, timber, weather}
 use Rattle.rules.specs.Layout.{fewestRows, mostRows, mostDepth, mostEntries, mostBytes}
 use Rattle.rules.specs.Outcome.{refused, got, test, _>>=_, _>>_}
-use Rattle.rules.specs.Walk.{Head, header, fixed, entries, among, chosen, weatherIn, weatherAt, loadAt, inside, conditionIn, fixedIn, shipFrame, rowIn, aRow, aCondition, frameOf, tableRow, theCondition, found, frameAt}
+use Rattle.rules.specs.Walk.{Head, header, fixed, entries, among, chosen, weatherAt, loadAt, inside, conditionIn, fixedIn, shipFrame, rowIn, aRow, aCondition, frameOf, tableRow, theCondition, found, frameAt}
 use Rattle.rules.specs.Parts.{part, headAt}
 use Rattle.rules.proofs.walk.Outcome.{bind-got, bind-refused, test-got, test-refused}
 use Rattle.rules.proofs.walk.Conditions.{chosen-got}
@@ -31,30 +31,25 @@ module _ (ln t : ℕ) where
   unfolding chosen
   set-other a b = next code (timber ∷ []) a ∙ next timber [] b
 
--- Its values, for any set.
-module _ (ln : ℕ) (s : Set) (body : List ℕ) where
-  pub weather-length : (length body ≡ size (weather s .fields) → ⊥) → weatherIn ln s body ≡ refused 3 ln 3
-  unfolding weatherIn
-  weather-length h = bind-refused _ (fixed-length ln 3 (weather s) body true h)
-
-  module _ (h : length body ≡ size (weather s .fields)) where
-    pub weather-outside : ok (weather s) (weather s .named (values (weather s .fields) body)) ≡ false → weatherIn ln s body ≡ refused 6 ln 3
-    unfolding weatherIn
-    weather-outside o = bind-refused _ (fixed-outside ln 3 (weather s) body true h refl o)
-
-    pub weather-within : ok (weather s) (weather s .named (values (weather s .fields) body)) ≡ true → weatherIn ln s body ≡ got (record { set = s; sky = weather s .named (values (weather s .fields) body) })
-    unfolding weatherIn
-    weather-within o = bind-got _ (fixed-within ln 3 (weather s) body true h refl o)
-
--- The block: its set, or 4; then its values.
+-- The block: its set, or 4; then its values, for any set.
 module _ (ln t : ℕ) (body : List ℕ) where
-  pub weather-tag : {n l o : ℕ} → chosen ln t ≡ refused n l o → weatherAt ln t body ≡ refused n l o
+  pub weather-tag : chosen ln t ≡ refused 4 ln 3 → weatherAt ln t body ≡ refused 4 ln 3
   unfolding weatherAt
   weather-tag h = bind-refused _ h
 
-  pub weather-set : (s : Set) → chosen ln t ≡ got s → weatherAt ln t body ≡ weatherIn ln s body
-  unfolding weatherAt
-  weather-set s h = bind-got _ h
+  module _ (s : Set) (e : chosen ln t ≡ got s) where
+    pub weather-length : (length body ≡ size (weather s .fields) → ⊥) → weatherAt ln t body ≡ refused 3 ln 3
+    unfolding weatherAt
+    weather-length h = bind-got _ e ∙ bind-refused _ (fixed-length ln 3 (weather s) body true h)
+
+    module _ (h : length body ≡ size (weather s .fields)) where
+      pub weather-outside : ok (weather s) (weather s .named (values (weather s .fields) body)) ≡ false → weatherAt ln t body ≡ refused 6 ln 3
+      unfolding weatherAt
+      weather-outside o = bind-got _ e ∙ bind-refused _ (fixed-outside ln 3 (weather s) body true h refl o)
+
+      pub weather-within : ok (weather s) (weather s .named (values (weather s .fields) body)) ≡ true → weatherAt ln t body ≡ got (record { set = s; sky = weather s .named (values (weather s .fields) body) })
+      unfolding weatherAt
+      weather-within o = bind-got _ e ∙ bind-got _ (fixed-within ln 3 (weather s) body true h refl o)
 
 -- ---- the load
 module _ (ln at : ℕ) (s : List ℕ) where

@@ -8,7 +8,7 @@ use lib.ListN.{length}
 use lib.Dec.{ltb}
 use Rattle.rules.specs.Blocks.{Layout, row, weather, entry}
 use Rattle.rules.specs.Outcome.{Ans, refused, got, test, _>>=_, _>>_}
-use Rattle.rules.specs.Walk.{Head, fixed, Tag, load, nested, begun, blockAt, weatherIn, weatherAt, conditionIn, fixedIn, rowIn, Frame, aRow, aCondition, found}
+use Rattle.rules.specs.Walk.{Head, fixed, Tag, load, nested, begun, blockAt, weatherAt, conditionIn, fixedIn, rowIn, Frame, aRow, aCondition, found}
 use Rattle.rules.proofs.walk.Outcome.{bind-refused}
 use Rattle.rules.proofs.walk.Refusals.{Refusal, given, weaker, test-refusal, inside-refusal}
 
@@ -54,7 +54,7 @@ module _ (ln : ℕ) where
       go nested = elsewhere (test-refusal _ _ _ _ _ (λ p. omega arith) (test-refusal _ _ _ _ _ (λ p. omega arith) given))
 
   pub weather-by-head : (t : ℕ) (body body′ : List ℕ) → length body ≡ length body′ → ByHead 3 (weatherAt ln t body) (weatherAt ln t body′)
-  unfolding weatherAt weatherIn
+  unfolding weatherAt
   weather-by-head t body body′ e = bind-by-head _ _ _ (λ s. first-by-head _ _ _ _ (fixed-by-head (weather s) true 3 body body′ e) (λ v. given))
 
   -- A frame.

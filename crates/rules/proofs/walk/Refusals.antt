@@ -12,7 +12,7 @@ use Rattle.rules.specs.Numbers.{num}
 use Rattle.rules.specs.Blocks.{Layout, ship, row, conditionTag, Set, weather, ordinary, cargo, item, tank, entry, groupTag}
 use Rattle.rules.specs.Layout.{Reading, leaves, mostDepth, mostEntries, Allowed}
 use Rattle.rules.specs.Outcome.{Ans, refused, got, test, _>>=_, _>>_}
-use Rattle.rules.specs.Walk.{nibble, unhex, split, decode, linesFrom, Head, header, fixed, Tag, load, nested, tagOf, Block, one, nest, begun, blockAt, Walk, step, walk, entries, sets, among, chosen, weatherIn, weatherAt, loadAt, inside, conditionIn, fixedIn, shipFrame, rowIn, Frame, aRow, aCondition, frameOf, Found, tableRow, theCondition, found, frameAt, closed, after, tail, readFrames, read}
+use Rattle.rules.specs.Walk.{nibble, unhex, split, decode, linesFrom, Head, header, fixed, Tag, load, nested, tagOf, Block, one, nest, begun, blockAt, Walk, step, walk, entries, sets, among, chosen, weatherAt, loadAt, inside, conditionIn, fixedIn, shipFrame, rowIn, Frame, aRow, aCondition, frameOf, Found, tableRow, theCondition, found, frameAt, closed, after, tail, readFrames, read}
 use Rattle.rules.specs.Parts.{be2}
 use Rattle.rules.proofs.walk.Outcome.{refused-got}
 use Rattle.rules.proofs.layout.Parts.{full-length}
@@ -177,7 +177,7 @@ module _ (ln : ℕ) where
   chosen-refusal t = among-refusal t sets
 
   pub weather-refusal : (t : ℕ) (body : List ℕ) → Refusal (At 3 ln 3) (weatherAt ln t body)
-  unfolding weatherAt weatherIn
+  unfolding weatherAt
   weather-refusal t body = bind-refusal _ _ (chosen-refusal t) (λ s es. bind-refusal _ _ (fixed-refusal (weather s) true 3 body) (λ v ev. given))
 
   -- Inside the condition: 5 at its own offset, or behind its head; before its end.

@@ -1,6 +1,7 @@
 -- `read_weather` meets its contract: each value at its place.
-use mathlib.Core.Path.{sym}
+use mathlib.Core.Path.{ap, sym}
 use borrow.Author.Needs.{needs}
+use Rattle.book.specs.Book.{setOf}
 use Rattle.blocks.proofs.Values.{weather-values}
 use Rattle.blocks.proofs.weather.read_weather.Statement.{statement}
 use Rattle.blocks.proofs.weather.read_weather.Tie as tie
@@ -26,7 +27,7 @@ returns c =
     let b = f .before in
     let z = b .before in
     let w = z .before in
-    rw (w .u32-at .ensures .0, z .u16-at .ensures .0, b .u16-at2 .ensures .0, f .u16-at3 .ensures .0, c .u16-at4 .ensures .0) (sym (weather-values _ (w .before .before .pre)))
+    rw (w .u32-at .ensures .0, z .u16-at .ensures .0, b .u16-at2 .ensures .0, f .u16-at3 .ensures .0, c .u16-at4 .ensures .0) (let s = w .before .before in ap (λ sky. record { set = setOf (s .args .set); sky = sky }) (sym (weather-values _ (setOf (s .args .set)) (s .pre))))
 
 pub read-weather-spec : {M : Type 1} → statement M
 read-weather-spec =

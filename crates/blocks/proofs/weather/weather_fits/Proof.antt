@@ -1,5 +1,6 @@
 -- `weather_fits` meets its contract: the five limits, one after the other.
 use borrow.Author.Needs.{needs}
+use Rattle.book.specs.Book.{setOf}
 use Rattle.blocks.proofs.Limits.{ok-weather}
 use Rattle.blocks.proofs.weather.weather_fits.Statement.{statement}
 use Rattle.blocks.proofs.weather.weather_fits.Tie as tie
@@ -34,7 +35,7 @@ both-requires-4 c κs = search needs
 returns : tie.Need-returns
 returns c =
     let w = c .before .before .before .before .before .before .before .before .before .args .w in
-    cc (ok-weather (w .wind) (w .z) (w .cb) (w .flooding) (w .deck))
+    cc (ok-weather (setOf (w .set)) (w .wind) (w .z) (w .cb) (w .flooding) (w .deck))
 
 pub weather-fits-spec : {M : Type 1} → statement M
 weather-fits-spec =
