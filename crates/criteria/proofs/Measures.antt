@@ -1,26 +1,25 @@
 -- The figures of criteria 1 to 4 as code takes them: two areas from 0, of which what lies from 30° on is the difference, and the lever at the peak.
 use mathlib.Core.Path.{_≡_, refl, ap, sym, _∙_}
-use mathlib.Core.Bool.{Bool, true, false}
-use Prim.Native.Nat.{_-_, _*_, _^_, _≤_, min}
+use Prim.Native.Nat.{ℕ, _-_, _*_, _^_, _≤_, min}
 use native.Mathlib.Omega.{arith}
 use native.Mathlib.Decide.{decLe}
-use borrow.Author.Tests.{le-ltb}
 use lib.IntN.{pos, natAbs, _-ℤ_, +ℤ-invr}
 use Rattle.rules.specs.Rounding.{peak}
 use Rattle.rules.specs.Curve.{Loaded, y, E, area}
-use Rattle.rules.specs.Criteria.{area1, area2, area3, greatestLever}
+use Rattle.rules.specs.Criteria.{set, area1, area2, area3, greatestLever}
 use Rattle.rules.specs.Ranges.{Fair}
+use Rattle.rules.proofs.criteria.Angles.{greatest-at}
 use Rattle.rules.proofs.loading.Areas.{area-empty}
 use Rattle.curve.specs.Levers.{upTo}
 use Rattle.curve.proofs.Areas.{leeward}
 use Rattle.gust.proofs.Machine.{abs-minus}
 use Rattle.gust.proofs.Limits.{upTo-within}
 
-module _ (c : Loaded) where
-  pub lever-is : 300 ≤ E c → y c (pos (peak (λ t. y c (pos t)) 300 (E c - 300))) ≡ greatestLever c
-  unfolding greatestLever
-  lever-is h = ap (λ (short : Bool). elim short [ true ↦ pos 0 | false ↦ y c (pos (peak (λ t. y c (pos t)) 300 (E c - 300))) ]) (sym (le-ltb (E c) 300 h))
+-- The lever at the peak, from where the set looks.
+pub looked : (c : Loaded) (from : ℕ) → from ≡ set c .from → from ≤ E c → y c (pos (peak (λ t. y c (pos t)) from (E c - from))) ≡ greatestLever c
+looked c from e h = ap (λ n. y c (pos (peak (λ t. y c (pos t)) n (E c - n)))) e ∙ sym (greatest-at c (rw (← e) h))
 
+module _ (c : Loaded) where
   pub area1-is : upTo (y c) (min 300 (E c)) ≡ area1 c
   unfolding area1
   area1-is = refl

@@ -1,14 +1,14 @@
 // The figures of criteria 1 to 6.
 ghost use mathlib.Core.Path.{_≡_};
 ghost use Prim.Native.Nat.{min as minOf};
-ghost use Rattle.rules.specs.Criteria.{greatestLever, gm as gmOf};
+ghost use Rattle.rules.specs.Criteria.{set, greatestLever, gm as gmOf};
 ghost use Rattle.rules.specs.Ranges.{Fair};
 ghost use Rattle.book.specs.Book.{loadedOf};
 ghost use Rattle.gust.specs.Gusts.{Curve, Areas};
 ghost use Rattle.criteria.specs.Figures.{rightingOf};
 use book::Loaded;
 
-// Areas and the greatest lever from 30° on in y units, the angle of the greatest in tenths of a degree, GM in mm.
+// Areas and the greatest lever in y units, the angle of the greatest in tenths of a degree, GM in mm.
 pub struct Righting {
     pub area1: i64,
     pub area2: i64,
@@ -24,16 +24,16 @@ fn min(a: usize, b: usize) -> usize
     if a < b { a } else { b }
 }
 
-// 4: a curve that ends before 30° has the figure 0.
-fn greatest_lever(c: Loaded, y: &[i64; 601]) -> i64
-    requires { ⌜ Fair (loadedOf c) × Curve (loadedOf c) (now y) ⌝ }
+// 4, from where the set looks: a curve that ends before has the figure 0.
+fn greatest_lever(c: Loaded, from: usize, y: &[i64; 601]) -> i64
+    requires { ⌜ Fair (loadedOf c) × (from ≡ set (loadedOf c) .from) × Curve (loadedOf c) (now y) ⌝ }
     ensures { λ r. ⌜ r ≡ greatestLever (loadedOf c) ⌝ }
 {
     let flooding = c.weather.flooding as usize;
-    if flooding < 300 {
+    if flooding < from {
         return 0;
     }
-    let at = curve::searches::peak(y, 300, flooding);
+    let at = curve::searches::peak(y, from, flooding);
     y[at]
 }
 
@@ -46,8 +46,8 @@ fn gm(c: Loaded) -> i64
 }
 
 // The area from 30° on is what is left of the one to 40°: no area is worked out again.
-pub fn measure(c: Loaded, y: &[i64; 601], area: &[i64; 601]) -> Righting
-    requires { ⌜ Fair (loadedOf c) × Curve (loadedOf c) (now y) × Areas (loadedOf c) (now area) ⌝ }
+pub fn measure(c: Loaded, from: usize, y: &[i64; 601], area: &[i64; 601]) -> Righting
+    requires { ⌜ Fair (loadedOf c) × (from ≡ set (loadedOf c) .from) × Curve (loadedOf c) (now y) × Areas (loadedOf c) (now area) ⌝ }
     ensures { λ r. ⌜ r ≡ rightingOf (loadedOf c) ⌝ }
 {
     let flooding = c.weather.flooding as usize;
@@ -56,7 +56,7 @@ pub fn measure(c: Loaded, y: &[i64; 601], area: &[i64; 601]) -> Righting
     let area1 = area[to30];
     let area3 = area[to40];
     let area2 = area3 - area1;
-    let lever = greatest_lever(c, y);
+    let lever = greatest_lever(c, from, y);
     let angle = curve::searches::peak(y, 0, flooding);
     let gm = gm(c);
     Righting {

@@ -1,31 +1,18 @@
-// Each figure against its limit.
+// Each figure against its limit, over any set of criteria.
 ghost use mathlib.Core.Path.{_≡_};
 ghost use mathlib.Core.List.{map};
+ghost use lib.Signed.{leZ};
 ghost use Rattle.rules.specs.Criteria.{phi0 as phi0Of, passes7};
 ghost use Rattle.rules.specs.Report.{judgement, verdict as verdictOf, verdictNumber};
 ghost use Rattle.rules.specs.Ranges.{Fair};
 ghost use Rattle.book.specs.Book.{loadedOf};
 ghost use Rattle.gust.specs.Gusts.{windOf, gustOf};
-ghost use Rattle.criteria.specs.Figures.{rightingOf, eighthOf};
+ghost use Rattle.criteria.specs.Figures.{criteriaOf, rightingOf, slotNumber, eighthOf};
 use super::righting::Righting;
+use super::sets::Criteria;
 use book::Loaded;
 use gust::Gust;
 use gust::Wind;
-
-// The limits of 1 to 7: areas and the lever in y units, angles in tenths of a degree, GM in mm.
-const AREA1: i64 = 315_126_800_000;
-
-const AREA2: i64 = 171_887_400_000;
-
-const AREA3: i64 = 515_662_100_000;
-
-const LEVER: i64 = 1_000_000_000;
-
-const ANGLE: usize = 250;
-
-const GM: i64 = 150;
-
-const HEEL: usize = 160;
 
 // 0 fail, 1 pass.
 fn verdict(passes: bool) -> u8
@@ -34,9 +21,23 @@ fn verdict(passes: bool) -> u8
     if passes { 1 } else { 0 }
 }
 
+// 'Unused' is 4.
+fn slot(used: bool, verdict: u8) -> u8
+    ensures { λ r. ⌜ r ≡ slotNumber used verdict ⌝ }
+{
+    if used { verdict } else { 4 }
+}
+
+// 1, 2, 3, 4 and 6 ask for at least so much.
+fn at_least(used: bool, limit: i64, figure: i64) -> u8
+    ensures { λ r. ⌜ r ≡ slotNumber used (verdictNumber (verdictOf (leZ limit figure))) ⌝ }
+{
+    slot(used, verdict(limit <= figure))
+}
+
 // 7: none fails.
-fn upright(c: Loaded, phi0: usize) -> bool
-    requires { ⌜ Fair (loadedOf c) × (phi0 ≡ phi0Of (loadedOf c)) ⌝ }
+fn upright(c: Loaded, set: Criteria, phi0: usize) -> bool
+    requires { ⌜ Fair (loadedOf c) × (set ≡ criteriaOf (loadedOf c)) × (phi0 ≡ phi0Of (loadedOf c)) ⌝ }
     ensures { λ r. ⌜ r ≡ passes7 (loadedOf c) ⌝ }
 {
     let flooding = c.weather.flooding as usize;
@@ -44,7 +45,13 @@ fn upright(c: Loaded, phi0: usize) -> bool
     if flooding < phi0 {
         return false;
     }
-    phi0 <= HEEL && 10 * phi0 <= 8 * deck
+    if set.heel < phi0 {
+        return false;
+    }
+    if set.deck {
+        return 10 * phi0 <= 8 * deck;
+    }
+    true
 }
 
 // What the report says of 8: its verdict, 2 where it is not judged, the roll and the net area.
@@ -76,19 +83,20 @@ pub fn of_gust(gust: Gust) -> Eighth
     }
 }
 
-// A curve that ends before 30° fails 4, as its figure is 0.
-pub fn list(c: Loaded, righting: Righting, wind: Wind, eighth: Eighth) -> [u8; 8]
-    requires { ⌜ Fair (loadedOf c) × (righting ≡ rightingOf (loadedOf c)) × (wind ≡ windOf (loadedOf c)) × (eighth ≡ eighthOf (gustOf (loadedOf c))) ⌝ }
+// A curve that ends before 4 looks fails it, as its figure is 0.
+pub fn list(c: Loaded, set: Criteria, righting: Righting, wind: Wind, eighth: Eighth) -> [u8; 8]
+    requires { ⌜ Fair (loadedOf c) × (set ≡ criteriaOf (loadedOf c)) × (righting ≡ rightingOf (loadedOf c)) × (wind ≡ windOf (loadedOf c)) × (eighth ≡ eighthOf (gustOf (loadedOf c))) ⌝ }
     ensures { λ r. ⌜ r ≡ map verdictNumber (judgement (loadedOf c) .verdicts) ⌝ }
 {
+    let used = set.used;
     [
-        verdict(righting.area1 >= AREA1),
-        verdict(righting.area2 >= AREA2),
-        verdict(righting.area3 >= AREA3),
-        verdict(righting.lever >= LEVER),
-        verdict(righting.angle >= ANGLE),
-        verdict(righting.gm >= GM),
-        verdict(upright(c, wind.phi0)),
-        eighth.verdict,
+        at_least(used[0], set.area1, righting.area1),
+        at_least(used[1], set.area2, righting.area2),
+        at_least(used[2], set.area3, righting.area3),
+        at_least(used[3], set.lever, righting.lever),
+        slot(used[4], verdict(set.angle <= righting.angle)),
+        at_least(used[5], set.gm, righting.gm),
+        slot(used[6], verdict(upright(c, set, wind.phi0))),
+        slot(used[7], eighth.verdict),
     ]
 }

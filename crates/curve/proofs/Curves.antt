@@ -85,4 +85,4 @@ module _ (c : Loaded) (fair : Fair c) where
   fair-upright = omega (arith, ok-at row (rowAt c) (fair .form) 3 .1)
 
   pub fair-end : E c ≤ 600
-  fair-end = ok-at weather (c .weather) (fair .sky) 3 .1
+  fair-end = ok-at (weather (c .weather .set)) (c .weather .sky) (fair .sky) 3 .1

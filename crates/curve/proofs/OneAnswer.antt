@@ -6,6 +6,8 @@ use native.Mathlib.Omega.{arith}
 use lib.IntN.{ℤ, pos}
 use lib.Seq.{ext-getD}
 use Rattle.rules.specs.Curve as rules
+use Rattle.book.specs.Book.{plainSet, loadedOf}
+use Rattle.book.proofs.Sets.{plain-set}
 use Rattle.book.specs.declared.Loaded.{Loaded}
 use Rattle.curve.specs.Levers.{Holds}
 use Rattle.curve.proofs.loading.weigh.Reads as weigh
@@ -27,7 +29,7 @@ weighed-fault-one κs a r r′ s s′ p q = p ∙ sym q
 abbrev plainLoaded : rules.Loaded → Loaded
 plainLoaded c = record {
   ship = record { length = c .ship .hullLength; breadth = c .ship .breadth; keel = c .ship .keelArea; bilge = c .ship .bilge };
-  weather = record { wind = c .weather .windArea; z = c .weather .z; cb = c .weather .cb; flooding = c .weather .flooding; deck = c .weather .deckEdge };
+  weather = record { set = plainSet (c .weather .set); wind = c .weather .sky .windArea; z = c .weather .sky .z; cb = c .weather .sky .cb; flooding = c .weather .sky .flooding; deck = c .weather .sky .deckEdge };
   w = c .w;
   kg = c .kg;
   draught = c .draught;
@@ -35,8 +37,11 @@ plainLoaded c = record {
   kn = c .kn;
 }
 
+loaded-back : (c : Loaded) → plainLoaded (loadedOf c) ≡ c
+loaded-back c = rw (plain-set (c .weather .set))
+
 pub loaded-one : (κs a r r′ s s′ : _) → loaded.Post κs a r s → loaded.Post κs a r′ s′ → r ≡ r′
-loaded-one κs a r r′ s s′ p q = ap plainLoaded (p ∙ sym q)
+loaded-one κs a r r′ s s′ p q = sym (loaded-back r) ∙ ap plainLoaded (p ∙ sym q) ∙ loaded-back r′
 
 -- Two arrays of 601 entries that are those of one f.
 holds-one : (f : ℕ → ℤ) (y z : List ℤ) → Holds f y → Holds f z → y ≡ z

@@ -15,6 +15,7 @@ use Rattle.blocks.specs.declared.row.RowAnswer.the-variants as row
 use Rattle.blocks.specs.declared.row.RowRead.{RowRead}
 use Rattle.blocks.specs.declared.weather.WeatherRead.{WeatherRead}
 use Rattle.blocks.specs.declared.weather.WeatherRead.the-variants as weather
+use Rattle.book.proofs.Sets.{weather-plain, plain-weather}
 use Rattle.frames.specs.Sums.{none}
 use Rattle.frames.specs.FrameAnswers.{loadRead, conditionFound, loaded, frameRead, rowFrame}
 use Rattle.frames.specs.declared.LoadRead.the-variants.{Sum}
@@ -34,12 +35,12 @@ module _ (m : Ans rules.Weather) (r : WeatherRead) (e : r ≡ weatherRead m) whe
     where
       go : (m : Ans rules.Weather) → weather.Within w ≡ weatherRead m → m ≡ got (weatherOf w)
       go (refused n l o) p = absurd (let z : _≡_ {A = ℕ} 0 1 = cc in omega arith)
-      go (got v) p = let z : w ≡ plainWeather v = cc in rw z
+      go (got v) p = let z : w ≡ plainWeather v = cc in rw (z, weather-plain v)
 
 pub condition-loaded : (w : Weather) (m : Ans Entries) → loaded w (loadRead none m) ≡ conditionFound (m >>= λ F. got (record { weather = weatherOf w; load = F }))
 unfolding _>>=_
 condition-loaded w (refused n l o) = refl
-condition-loaded w (got F) = ap (λ t. loaded w (Sum t)) (plus-none (sumsOf F))
+condition-loaded w (got F) = ap (λ t. loaded w (Sum t)) (plus-none (sumsOf F)) ∙ ap (λ v. loaded v (Sum (sumsOf F))) (sym (plain-weather w))
 
 -- ---- a frame
 pub refused-frame : (x : Refusal) (n l o : ℕ) (m : Ans Found) → x ≡ refusal n l o → m ≡ refused n l o → frameRead (refused (x .number) (x .line) (x .offset)) ≡ frameRead m

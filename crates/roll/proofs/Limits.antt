@@ -18,8 +18,8 @@ pub record Sized (c : Loaded) : Type 0 where
   pub breadthFrom : 3_000 ≤ c .ship .breadth
   pub breadthTo : c .ship .breadth ≤ 70_000
   pub keelTo : c .ship .keelArea ≤ 20_000
-  pub windTo : c .weather .windArea ≤ 300_000
-  pub zTo : c .weather .z ≤ 60_000
+  pub windTo : c .weather .sky .windArea ≤ 300_000
+  pub zTo : c .weather .sky .z ≤ 60_000
   pub massFrom : 100_000 ≤ c .w
   pub massTo : c .w ≤ 600_000_000
   pub draughtFrom : 500 ≤ c .draught
@@ -31,7 +31,7 @@ pub sized : (c : Loaded) → Fair c → Sized c
 unfolding ok Limited
 sized c f =
     let hull = limited (ship .fields) (ship .listed (c .ship)) (both-true _ _ (f .hull) .0) in
-    let sky = limited (weather .fields) (weather .listed (c .weather)) (both-true _ _ (f .sky) .0) in
+    let sky = limited (weather (c .weather .set) .fields) (weather (c .weather .set) .listed (c .weather .sky)) (both-true _ _ (f .sky) .0) in
     let form = limited (row .fields) (row .listed (rowAt c)) (both-true _ _ (f .form) .0) in
     record {
       lengthFrom = hull .0;
@@ -51,7 +51,7 @@ sized c f =
 
 module _ (c : Loaded) (f : Fair c) where
   -- ---- the wind levers
-  pub moment-to : 5040 * c .weather .windArea * c .weather .z ≤ 5040 * 300_000 * 60_000
+  pub moment-to : 5040 * c .weather .sky .windArea * c .weather .sky .z ≤ 5040 * 300_000 * 60_000
   moment-to = let s = sized c f in mul-le-mul (mul-le-mul-left 5040 (s .windTo)) (s .zTo)
 
   pub lw1-to : lw1 c ≤ 1_000_000

@@ -11,7 +11,7 @@ use lib.Signed.{leZ}
 use borrow.Author.Tests.{le-leb, lt-leb}
 use Rattle.rules.specs.Blocks.{Set, code, timber}
 use Rattle.rules.specs.Curve.{Loaded, E}
-use Rattle.rules.specs.Criteria.{limitsOf, area1, area2, area3, greatestLever, angleOfGreatest, gm, phi0, passes1, passes2, passes3, passes4, passes5, passes6, passes7}
+use Rattle.rules.specs.Criteria.{limitsOf, set, area1, area2, area3, greatestLever, angleOfGreatest, gm, phi0, passes1, passes2, passes3, passes4, passes5, passes6, passes7}
 use Rattle.rules.specs.Report.{pass, slot, verdictNumber}
 use Rattle.rules.specs.Roll.{net, passes8}
 use Rattle.rules.proofs.rounding.Signed.{Le, Lt, le-true, le-false}
@@ -31,6 +31,21 @@ module _ (s : Set) (limit : ℕ) (figure : Loaded → ℤ) (passes : Loaded → 
   pub fails-below : Lt (figure c) (pos limit) → passes c ≡ false
   fails-below h = is c e ∙ le-false (pos limit) (figure c) h
 
+-- ---- any set
+-- 4 asks for a lever from where the set looks, and a curve that ends before fails.
+pub lever-asked : (c : Loaded) → set c .from ≤ E c → passes4 c ≡ leZ (pos (set c .lever)) (greatestLever c)
+unfolding passes4
+lever-asked c h = rw (le-leb (set c .from) (E c) h)
+
+pub lever-short : (c : Loaded) → E c < set c .from → passes4 c ≡ false
+unfolding passes4
+lever-short c h = rw (lt-leb (set c .from) (E c) h)
+
+-- 'Pass: net >= 0'; 'criterion 8 as before'.
+pub criterion8 : (c : Loaded) → passes8 c ≡ leZ (pos 0) (net c)
+unfolding passes8
+criterion8 c = refl
+
 -- ---- the Code's set
 pub criterion1 : AtLeast code 315_126_800_000 area1 passes1
 unfolding passes1
@@ -46,12 +61,10 @@ criterion3 c s = rw s
 
 -- 'If E < 300: fail.'
 pub criterion4 : (c : Loaded) → c .weather .set ≡ code → 300 ≤ E c → passes4 c ≡ leZ (pos 1_000_000_000) (greatestLever c)
-unfolding passes4
-criterion4 c s h = rw (s, le-leb 300 (E c) h)
+criterion4 c s h = lever-asked c (rw s h) ∙ rw s
 
 pub criterion4-short : (c : Loaded) → c .weather .set ≡ code → E c < 300 → passes4 c ≡ false
-unfolding passes4
-criterion4-short c s h = rw (s, lt-leb 300 (E c) h)
+criterion4-short c s h = lever-short c (rw s h)
 
 pub criterion5 : AtLeast code 250 (λ c. pos (angleOfGreatest c)) passes5
 unfolding passes5
@@ -81,8 +94,7 @@ timber3 c s = rw s
 
 -- 'At least 0.25 m (1,250,000,000)', for every E.
 pub timber4 : AtLeast timber 1_250_000_000 greatestLever passes4
-unfolding passes4
-timber4 c s = rw (s, le-leb 0 (E c) (omega arith))
+timber4 c s = lever-asked c (rw s (omega arith)) ∙ rw s
 
 -- 'GM at least 100.'
 pub timber6 : AtLeast timber 100 gm passes6
@@ -97,9 +109,3 @@ timber7 c s = rw s (and-true _)
 -- 'Slots 1, 2 and 5 read 4, unused'; in the Code's set every slot is used.
 pub slots-used : map (λ s. map (λ used. verdictNumber (slot used pass)) (limitsOf s .used)) (code ∷ timber ∷ []) ≡ replicate 8 1 ∷ (4 ∷ 4 ∷ 1 ∷ 1 ∷ 4 ∷ 1 ∷ 1 ∷ 1 ∷ []) ∷ []
 slots-used = refl
-
--- ---- every set
--- 'Pass: net >= 0'; 'criterion 8 as before'.
-pub criterion8 : (c : Loaded) → passes8 c ≡ leZ (pos 0) (net c)
-unfolding passes8
-criterion8 c = refl

@@ -1,4 +1,4 @@
--- `criteria::righting::greatest_lever` meets its contract: the lever at the peak from 30° on. Assumes nothing.
+-- `criteria::righting::greatest_lever` meets its contract: the lever at the peak from where the set looks. Assumes nothing.
 use mathlib.Core.Path.{_≡_, ap, sym, _∙_}
 use Prim.Native.Nat.{ℕ, _-_, _<_}
 use native.Mathlib.Omega.{arith}
@@ -10,25 +10,25 @@ use Rattle.rules.proofs.rounding.Searches.{peak-is}
 use Rattle.rules.proofs.criteria.Angles.{greatest-none}
 use Rattle.book.specs.Book.{loadedOf}
 use Rattle.curve.proofs.Curves.{peak-held, fair-end}
-use Rattle.criteria.proofs.Measures.{lever-is}
+use Rattle.criteria.proofs.Measures.{looked}
 use Rattle.criteria.proofs.righting.greatest_lever.Statement.{statement}
 use Rattle.criteria.proofs.righting.greatest_lever.Tie as tie
 
 abbrev ship : tie.Start → Loaded
 ship s = loadedOf (s .args .c)
 
-at-peak : (c : tie.After-peak) → c .peak .result ≡ peak (λ t. y (ship (c .before .before)) (pos t)) 300 (E (ship (c .before .before)) - 300)
+at-peak : (c : tie.After-peak) → c .peak .result ≡ peak (λ t. y (ship (c .before .before)) (pos t)) (c .before .before .args .from) (E (ship (c .before .before)) - c .before .before .args .from)
 at-peak c =
     let s = c .before .before in
-    c .peak .ensures ∙ peak-held (ship s .kn) (ship s .kg) (s .args .y .now) (s .pre .1) 300 (E (ship s) - 300) (omega (arith, fair-end _ (s .pre .0), c .before .if1 .left))
+    c .peak .ensures ∙ peak-held (ship s .kn) (ship s .kg) (s .args .y .now) (s .pre .2) (s .args .from) (E (ship s) - s .args .from) (omega (arith, fair-end _ (s .pre .0), c .before .if1 .left))
 
 in-curve : (c : tie.After-peak) → c .peak .result < 601
 in-curve c =
     let s = c .before .before in
-    omega (arith, at-peak c, peak-is (λ t. y (ship s) (pos t)) 300 (E (ship s) - 300) .high, fair-end _ (s .pre .0), c .before .if1 .left)
+    omega (arith, at-peak c, peak-is (λ t. y (ship s) (pos t)) (s .args .from) (E (ship s) - s .args .from) .high, fair-end _ (s .pre .0), c .before .if1 .left)
 
 returns : tie.Need-returns
-returns c = sym (greatest-none _ (c .if1 .taken))
+returns c = sym (greatest-none _ (rw (← c .before .pre .1) (c .if1 .taken)))
 
 peak-requires : tie.Need-peak-requires
 peak-requires c κs = (c .if1 .left, fair-end _ (c .before .pre .0))
@@ -45,9 +45,9 @@ returns-2 c =
     let p = c .before in
     let s = p .before .before in
     toZ-ofZ (record { sfits = c .result .given })
-    ∙ s .pre .1 .at (p .peak .result) (omega (arith, in-curve p))
+    ∙ s .pre .2 .at (p .peak .result) (omega (arith, in-curve p))
     ∙ ap (λ (t : ℕ). y (ship s) (pos t)) (at-peak p)
-    ∙ lever-is _ (p .before .if1 .left)
+    ∙ looked (ship s) (s .args .from) (s .pre .1) (p .before .if1 .left)
 
 pub greatest-lever-spec : {M : Type 1} → statement M
 greatest-lever-spec =

@@ -26,13 +26,13 @@ first-is : (c : tie.After-area1) → toZ w64 (ofZ w64 (getD (c .before .before .
 first-is c =
     let m = c .before .before in
     let s = m .before in
-    toZ-ofZ (record { sfits = c .area1 .given }) ∙ s .pre .2 .at (m .min .result) (omega (arith, m .min .ensures)) ∙ ap (upTo (y (ship s))) (m .min .ensures) ∙ area1-is (ship s)
+    toZ-ofZ (record { sfits = c .area1 .given }) ∙ s .pre .3 .at (m .min .result) (omega (arith, m .min .ensures)) ∙ ap (upTo (y (ship s))) (m .min .ensures) ∙ area1-is (ship s)
 
 third-is : (c : tie.After-area3) → toZ w64 (ofZ w64 (getD (c .before .before .before .before .args .area .now) (c .before .before .min2 .result) (pos 0))) ≡ area3 (ship (c .before .before .before .before))
 third-is c =
     let m = c .before .before in
     let s = m .before .before in
-    toZ-ofZ (record { sfits = c .area3 .given }) ∙ s .pre .2 .at (m .min2 .result) (omega (arith, m .min2 .ensures)) ∙ ap (upTo (y (ship s))) (m .min2 .ensures) ∙ area3-is (ship s)
+    toZ-ofZ (record { sfits = c .area3 .given }) ∙ s .pre .3 .at (m .min2 .result) (omega (arith, m .min2 .ensures)) ∙ ap (upTo (y (ship s))) (m .min2 .ensures) ∙ area3-is (ship s)
 
 second-fits : (s : tie.Start) → SFits w64 (area3 (ship s) -ℤ area1 (ship s))
 second-fits s = fits _ (omega (arith, area2-within _ (s .pre .0)))
@@ -42,7 +42,7 @@ unfolding angleOfGreatest
 angle-is c =
     let s = c .before .before .before .before .before .before in
     let n : E (ship s) - 0 ≡ E (ship s) = omega arith in
-    rw n at (c .peak .ensures) ∙ peak-held (ship s .kn) (ship s .kg) (s .args .y .now) (s .pre .1) 0 (E (ship s)) (omega (arith, fair-end _ (s .pre .0)))
+    rw n at (c .peak .ensures) ∙ peak-held (ship s .kn) (ship s .kg) (s .args .y .now) (s .pre .2) 0 (E (ship s)) (omega (arith, fair-end _ (s .pre .0)))
 
 lever-is : (c : tie.After-greatest-lever) → toZ w64 (ofZ w64 (c .greatest-lever .result)) ≡ greatestLever (ship (c .before .before .before .before .before))
 lever-is c = toZ-ofZ (record { sfits = c .greatest-lever .ok }) ∙ c .greatest-lever .ensures
