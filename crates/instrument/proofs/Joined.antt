@@ -25,6 +25,7 @@ use Rattle.book.specs.declared.Loaded as plain
 use Rattle.book.specs.declared.Judgement as plain′
 use Rattle.book.specs.declared.Refusal.{Refusal}
 use Rattle.book.specs.declared.Sums.{Sums}
+use Rattle.book.proofs.Sets.{weather-plain}
 use Rattle.curve.specs.Weighing.{Whole, Sound, kgOf, weight, weighedOf, weighedFault, Weighs}
 use Rattle.curve.specs.declared.loading.Weighed.{Weighed}
 use Rattle.curve.specs.declared.loading.Weighed.the-variants as weighing
@@ -75,7 +76,7 @@ module _ (r : Reading) (x : Read) (t : Table) (T : Says r x t) where
     in-table = rw (T .rows, fine .1) (soundness.reading-in-table r (fine .0))
 
     loaded-of : (l : plain.Loaded) → loadedOf l ≡ loadedAt (shipOf (x .ship)) (rowsOf t) (weatherOf (x .weather)) w kg → loadedOf l ≡ loaded r
-    loaded-of l p = p ∙ rw (T .plain, T .rows, fine .1, fine .2) (soundness.reading-loaded r)
+    loaded-of l p = p ∙ rw (T .plain, T .rows, fine .1, fine .2, weather-plain (r .condition .weather)) (soundness.reading-loaded r)
 
     pub fair-of : (l : plain.Loaded) → loadedOf l ≡ loadedAt (shipOf (x .ship)) (rowsOf t) (weatherOf (x .weather)) w kg → Fair (loadedOf l)
     fair-of l p = rw (loaded-of l p) (fair r (T .limits) (fine .0))
