@@ -1,4 +1,4 @@
--- Numbers in bytes, fields, characters and lines, places: laws of specs/Numbers, Text, Blocks, Layout, Parts, Places and Cargo, and 01's limits restated.
+-- Numbers in bytes, fields, characters and lines, places: laws of specs/Numbers, Text, Blocks, Layout, Parts, Places, Tags, Cargo and Timber, and 01's limits restated.
 pub mod Numbers
 pub mod Fields
 pub mod Lines
@@ -7,4 +7,5 @@ pub mod Parts
 pub mod Edges
 pub mod Counts
 pub mod InsideParent
+pub mod OtherTag
 pub mod Retagged

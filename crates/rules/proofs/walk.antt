@@ -1,4 +1,4 @@
--- The order of checks: laws of specs/Outcome and Walk, which texts are read, and what a refusal says: specs/Met and Places.
+-- The order of checks: laws of specs/Outcome and Walk, which texts are read, and what a refusal says: specs/Met and Places; two texts that differ in one tag: specs/Tags, Cargo and Timber.
 pub mod Outcome
 pub mod Heads
 pub mod Entries
@@ -18,4 +18,7 @@ pub mod FrameFault
 pub mod FirstFault
 pub mod BadLine
 pub mod PlaceWithin
+pub mod Alike
+pub mod OtherTag
 pub mod Retagged
+pub mod Timber

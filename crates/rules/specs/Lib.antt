@@ -10,8 +10,10 @@ pub mod Places
 pub mod Met
 pub mod Loading
 pub mod Leaves
+pub mod Tags
 pub mod Cargo
 pub mod Curve
+pub mod Timber
 pub mod Criteria
 pub mod Roll
 pub mod Report

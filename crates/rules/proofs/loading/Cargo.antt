@@ -12,7 +12,8 @@ use Rattle.rules.specs.Layout.{Entries, spell, spellCondition, frames, s
 use Rattle.rules.specs.Loading.{Entry, mass, moment, nominallyFull, surfaceMoment, freeSurfaceOf, freeSurface}
 use Rattle.rules.specs.Leaves.{sumLeaves, loadedWith}
 use Rattle.rules.specs.Cargo.{MadeCargo, here, afterEntry, afterGroup, inGroup}
-use Rattle.rules.proofs.layout.Retagged.{same-length, as-many-characters, spell-retagged, frames-retagged}
+use Rattle.rules.proofs.layout.OtherTag.{same-length, as-many-characters}
+use Rattle.rules.proofs.layout.Retagged.{spell-retagged, frames-retagged}
 
 -- ---- one tank
 -- At fill 0 neither kind has any; from fill 1 on a cargo tank has its whole moment, and a C3 up to 979.
