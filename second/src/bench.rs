@@ -1,7 +1,7 @@
 //! The bench sheet: P1 to P13, its unmarked lines, and the slips it has met.
 
 use crate::book::Document;
-use crate::criteria::{judge, Gust, Wind, FAIL, PASS};
+use crate::criteria::{judge, Gust, Wind, FAIL, PASS, UNUSED};
 use crate::curve::Curve;
 use crate::line::{read_up, up};
 use crate::loading::laden;
@@ -115,19 +115,72 @@ fn flooding_at_300_leaves_no_area_for_criterion_2() {
     );
 }
 
-/// P1 with the wind arm that heels it to 160 tenths.
+/// P1 with the wind arm that heels it to 160 tenths, and by timber's criteria
+/// with that which heels it to 161 too.
 #[test]
 fn steady_heel_of_160_and_the_deck_edge() {
-    let heel = |arm: u32, edge: u32| {
-        let weather = format!("C1000C000009C4{arm:04X}02BC01F4{edge:04X}");
+    let heel = |tag: &str, arm: u32, edge: u32| {
+        let weather = format!("{tag}000C000009C4{arm:04X}02BC01F4{edge:04X}");
         let text = p1_with(&[("C1000C000009C40FA002BC01F400C8", &weather)]);
         judge(text.as_bytes()).expect("sound")
     };
-    let arm = (0..60_000)
-        .find(|&arm| heel(arm, 200).figures[8] == 160)
-        .expect("an arm that heels P1 to 160");
-    assert_eq!(heel(arm, 200).verdicts[6], PASS);
-    assert_eq!(heel(arm, 199).verdicts[6], FAIL);
+    let arms = [160, 161].map(|angle| {
+        let heels = |arm: &u32| heel("C1", *arm, 200).figures[8] == angle;
+        (0..60_000).find(heels).expect("an arm that heels P1 so")
+    });
+    assert_eq!(heel("C1", arms[0], 200).verdicts[6], PASS);
+    assert_eq!(heel("C1", arms[0], 199).verdicts[6], FAIL);
+    for edge in [1, 199, 200, 600] {
+        let verdicts = arms.map(|arm| heel("C6", arm, edge).verdicts[6]);
+        assert_eq!(verdicts, [PASS, FAIL]);
+    }
+}
+
+/// P1 by the criteria for timber: its lever is greatest at 30 degrees, so all
+/// figures stay.
+#[test]
+fn p1_with_timber_on_deck() {
+    let timber = p1_with(&[("C1000C", "C6000C")]);
+    let expected = REPORT.replace("0101010101010101", "0404010104010101");
+    assert_eq!(report(&judge(timber.as_bytes())), expected);
+}
+
+/// The KM of both rows, 4,500 in P1, makes the GM; flooding at 299 leaves a
+/// greatest lever for timber and none for the Code.
+#[test]
+fn timber_by_gm_and_by_flooding_before_30() {
+    let timber = |from: &str, to: &str| {
+        let text = p1_with(&[("C1000C", "C6000C")]).replace(from, to);
+        judge(text.as_bytes()).expect("sound")
+    };
+    for (km, gm, verdict) in [("1003", 99, FAIL), ("1004", 100, PASS)] {
+        let judged = timber("1194", km);
+        assert_eq!((judged.figures[2], judged.verdicts[5]), (gm, verdict));
+    }
+    let early = timber("01F400C8", "012B00C8");
+    let lever = 23_952_000 + 49 * 30_000_000;
+    assert_eq!((early.verdicts[3], early.figures[6]), (PASS, lever));
+    assert_eq!(early.verdicts[..2], [UNUSED; 2]);
+}
+
+#[test]
+fn a_c6_is_refused_where_a_c1_would_be() {
+    let timber = "C6000C000009C40FA002BC01F400C8";
+    let weather = "C1000C000009C40FA002BC01F400C8";
+    let long = p1_with(&[("C1000C", "C6000D")]);
+    assert_eq!(refused(&long), Some(Refusal::at(3, 4, 3)));
+    let edge = p1_with(&[("C1000C", "C6000C"), ("01F400C8", "01F40000")]);
+    assert_eq!(refused(&edge), Some(Refusal::at(6, 4, 3)));
+    for pair in [[weather, timber], [timber, weather], [timber, timber]] {
+        let behind = p1_with(&[("A30018", "A30027"), (weather, &pair.concat())]);
+        assert_eq!(refused(&behind), Some(Refusal::at(4, 4, 18)));
+    }
+    let alone = p1_with(&[
+        ("A30018", "A3000F"),
+        ("C2000600155CC00FA0", ""),
+        ("C1000C", "C6000C"),
+    ]);
+    assert_eq!(refused(&alone), Some(Refusal::at(5, 4, 0)));
 }
 
 #[test]

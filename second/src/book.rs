@@ -2,6 +2,8 @@
 //! condition with its tree of items, tanks, cargo tanks and groups. Lengths
 //! are in millimetres, masses in kilograms, angles in tenths of a degree.
 
+use crate::sets::CriteriaSet;
+
 #[derive(Clone, Debug, PartialEq)]
 pub struct Ship {
     pub length: i128,
@@ -50,6 +52,8 @@ pub enum Entry {
 
 #[derive(Clone, Debug, PartialEq)]
 pub struct Condition {
+    /// The set that the weather block's tag chooses.
+    pub criteria: &'static CriteriaSet,
     pub weather: Weather,
     pub entries: Vec<Entry>,
 }

@@ -1,4 +1,6 @@
-//! The eight criteria, each with its verdict and its figures.
+//! The eight criteria, each with its verdict and its figures, by the set that
+//! the text has chosen. No set has a criterion of its own: sets differ in what
+//! `CriteriaSet` says of them.
 
 use crate::book::Document;
 use crate::curve::{Curve, Y_PER_MILLIMETRE};
@@ -7,19 +9,15 @@ use crate::loading::{laden, Laden};
 use crate::parse::document;
 use crate::refusal::Refusal;
 use crate::roll;
+use crate::sets::{CriteriaSet, Limit};
 use crate::text::lines;
 
 pub const FAIL: u8 = 0;
 pub const PASS: u8 = 1;
 pub const NOT_JUDGED: u8 = 2;
+pub const REFUSED: u8 = 3;
+pub const UNUSED: u8 = 4;
 
-pub const AREA_TO_30: i128 = 315_126_800_000;
-pub const AREA_30_TO_40: i128 = 171_887_400_000;
-pub const AREA_TO_40: i128 = 515_662_100_000;
-pub const GREATEST_LEVER: i128 = 1_000_000_000;
-pub const ANGLE_OF_GREATEST: i128 = 250;
-pub const LEAST_GM: i128 = 150;
-pub const STEADY_HEEL: i128 = 160;
 pub const WEATHER_END: i128 = 500;
 
 #[derive(Clone, Debug, PartialEq)]
@@ -47,25 +45,33 @@ fn verdict(holds: bool) -> u8 {
     }
 }
 
+/// The verdict on a figure that must reach a limit, if the slot is used. A
+/// figure that there is none of does not.
+pub fn at_least(figure: impl Into<Option<i128>>, limit: Limit) -> u8 {
+    let reaches = |limit: i128| figure.into().is_some_and(|figure| figure >= limit);
+    limit.map_or(UNUSED, |limit| verdict(reaches(limit)))
+}
+
 fn judgement(document: &Document, laden: &Laden) -> Judgement {
+    let set = document.condition.criteria;
     let curve = Curve::of(laden);
     let flooding = document.condition.weather.flooding;
     let to_30 = curve.area(0, flooding.min(300));
     let to_40 = curve.area(0, flooding.min(400));
     let from_30 = curve.area(300, flooding.min(400));
-    let high = curve.greatest(300..=flooding).map(|(_, y)| y);
+    let high = curve.greatest(set.lever_from..=flooding).map(|(_, y)| y);
     let angle = curve.greatest(0..=flooding).map_or(0, |(t, _)| t);
     let wind = Wind::on(document, laden, &curve);
     let (weather, phi1, net) = wind.weather(document, laden, &curve);
     Judgement {
         verdicts: [
-            verdict(to_30 >= AREA_TO_30),
-            verdict(from_30 >= AREA_30_TO_40),
-            verdict(to_40 >= AREA_TO_40),
-            verdict(high.is_some_and(|y| y >= GREATEST_LEVER)),
-            verdict(angle >= ANGLE_OF_GREATEST),
-            verdict(laden.gm() >= LEAST_GM),
-            wind.steady(document.condition.weather.deck_edge),
+            at_least(to_30, set.area_to_30),
+            at_least(from_30, set.area_30_to_40),
+            at_least(to_40, set.area_to_40),
+            at_least(high, set.greatest_lever),
+            at_least(angle, set.angle_of_greatest),
+            at_least(laden.gm(), set.gm),
+            wind.steady(set, document.condition.weather.deck_edge),
             weather,
         ],
         figures: [
@@ -113,11 +119,12 @@ impl Wind {
         }
     }
 
-    fn steady(&self, deck_edge: i128) -> u8 {
-        verdict(
-            self.phi0
-                .is_some_and(|phi0| phi0 <= STEADY_HEEL && 10 * phi0 <= 8 * deck_edge),
-        )
+    fn steady(&self, set: &CriteriaSet, deck_edge: i128) -> u8 {
+        let holds = |phi0: i128| {
+            let clear = !set.deck_edge_counts || 10 * phi0 <= 8 * deck_edge;
+            phi0 <= set.steady_heel && clear
+        };
+        verdict(self.phi0.is_some_and(holds))
     }
 
     /// Verdict, phi1 and net of criterion 8.

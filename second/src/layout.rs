@@ -9,6 +9,7 @@ pub const C2: u8 = 0xC2;
 pub const C3: u8 = 0xC3;
 pub const C4: u8 = 0xC4;
 pub const C5: u8 = 0xC5;
+pub const C6: u8 = 0xC6;
 
 #[derive(Clone, Copy, Debug)]
 pub struct Field {
@@ -72,7 +73,7 @@ pub fn fields(tag: u8) -> Option<&'static [Field]> {
     match tag {
         A1 => Some(&SHIP),
         A2 => Some(&ROW),
-        C1 => Some(&WEATHER),
+        C1 | C6 => Some(&WEATHER),
         C2 => Some(&ITEM),
         C3 | C5 => Some(&TANK),
         _ => None,
@@ -111,8 +112,8 @@ mod tests {
 
     #[test]
     fn sizes_of_the_table() {
-        let sizes = [A1, A2, C1, C2, C3, C5].map(size_of);
-        assert_eq!(sizes, [13, 34, 12, 6, 14, 14].map(Some));
+        let sizes = [A1, A2, C1, C2, C3, C5, C6].map(size_of);
+        assert_eq!(sizes, [13, 34, 12, 6, 14, 14, 12].map(Some));
         assert_eq!((size_of(A3), size_of(C4)), (None, None));
     }
 
@@ -120,6 +121,20 @@ mod tests {
     fn tank(values: [u32; 5]) -> Vec<u8> {
         let [mass, centre, fill, density, inertia] = values.map(u32::to_be_bytes);
         [&mass[..], &centre[2..], &fill[2..], &density[2..], &inertia].concat()
+    }
+
+    /// C6 has C1's fields, the deck edge angle and its limits among them.
+    #[test]
+    fn both_kinds_of_weather_have_the_same_limits() {
+        let most = [300_000, 60_000, 1_000, 600, 600];
+        let least = [0, 0, 200, 0, 1];
+        for tag in [C1, C6] {
+            let limits = fields(tag).unwrap_or_default();
+            let widths: Vec<usize> = limits.iter().map(|field| field.width).collect();
+            assert_eq!(widths, [4, 2, 2, 2, 2]);
+            assert!(limits.iter().map(|field| field.least).eq(least));
+            assert!(limits.iter().map(|field| field.most).eq(most));
+        }
     }
 
     #[test]

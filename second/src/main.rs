@@ -14,6 +14,7 @@ mod parse;
 mod refusal;
 mod report;
 mod roll;
+mod sets;
 mod stream;
 mod text;
 

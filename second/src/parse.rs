@@ -1,11 +1,12 @@
 //! From lines to the document: each line is a frame, a frame is a block, and
 //! A3 holds a tree of items, tanks, cargo tanks and groups. Blocks are tested
 //! as they begin, in the order 2, 4, 3, 5, 6; the first fault met ends the
-//! reading.
+//! reading. A3 begins with the weather, whose tag chooses the criteria.
 
 use crate::book::{Condition, Document, Entry, Liquid, Row, Ship, Weather, Weight};
-use crate::layout::{self, values, A1, A2, A3, C1, C2, C3, C4, C5};
+use crate::layout::{self, values, A1, A2, A3, C2, C3, C4, C5};
 use crate::refusal::Refusal;
+use crate::sets;
 
 pub const FEWEST_ROWS: usize = 2;
 pub const MOST_ROWS: usize = 40;
@@ -180,16 +181,20 @@ fn condition(line: &Line, frame: &Block) -> Result<Condition, Refusal> {
         return line.refuse(5, frame.offset);
     }
     let first = line.block(frame.inside(), frame.end())?;
-    if first.tag != C1 {
+    let Some(criteria) = sets::chosen_by(first.tag) else {
         return line.refuse(4, first.offset);
-    }
+    };
     line.fixed_size(&first)?;
     let weather = weather(&line.limits(&first)?);
     if first.end() == frame.end() {
         return line.refuse(5, frame.offset);
     }
     let entries = Loading::new(line, frame.end()).read(first.end())?;
-    Ok(Condition { weather, entries })
+    Ok(Condition {
+        criteria,
+        weather,
+        entries,
+    })
 }
 
 /// A parent that has begun and not ended: A3 itself, or a group in it.

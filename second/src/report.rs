@@ -1,9 +1,7 @@
 //! The report: one frame D1 of 209 characters, the LF in them.
 
-use crate::criteria::Judgement;
+use crate::criteria::{Judgement, REFUSED};
 use crate::refusal::Refusal;
-
-const REFUSED: u8 = 3;
 
 pub fn report(answer: &Result<Judgement, Refusal>) -> String {
     match answer {

@@ -13,10 +13,10 @@ pub mod Leaves
 pub mod Tags
 pub mod Cargo
 pub mod Curve
-pub mod Timber
 pub mod Criteria
 pub mod Roll
 pub mod Report
+pub mod Timber
 pub mod Columns
 pub mod Answer
 pub mod Ranges

@@ -18,9 +18,18 @@ pub fn add(cases: &mut Cases) {
     }
     add_rising(cases);
     add_tanks(cases);
-    cases.add("all limits low", |dice| all_at(dice, |field| field.least));
-    cases.add("all limits high", |dice| all_at(dice, |field| field.most));
+    for (name, end) in ENDS {
+        cases.add(name, move |dice| all_at(dice, end).text());
+    }
 }
+
+/// Either end of a field's limits.
+pub type End = fn(&Field) -> i128;
+
+pub const ENDS: [(&str, End); 2] = [
+    ("all limits low", |field| field.least),
+    ("all limits high", |field| field.most),
+];
 
 pub fn values(field: &Field) -> Vec<i128> {
     let most_held = (1 << (8 * field.width)) - 1;
@@ -107,7 +116,7 @@ fn add_tanks(cases: &mut Cases) {
 
 /// Every field of every block at the same end of its limits, as far as the
 /// rows' rising and the sum of the masses let them.
-fn all_at(dice: &mut Dice, end: fn(&Field) -> i128) -> Vec<u8> {
+pub fn all_at(dice: &mut Dice, end: End) -> Draft {
     let (_, mut draft) = base(dice);
     draft.condition().inner.truncate(2);
     draft.condition().inner.push(tank(0, 0, 0, 0, 0));
@@ -122,5 +131,5 @@ fn all_at(dice: &mut Dice, end: fn(&Field) -> i128) -> Vec<u8> {
     draft.condition().inner[2].values[0] = 0;
     let inward = if displacement == 100_000 { 2 } else { 1 };
     draft.frames[inward].values[0] += if inward == 2 { 1 } else { -1 };
-    draft.text()
+    draft
 }

@@ -15,12 +15,13 @@ use super::winds::blow;
 use crate::criteria::{judge, FAIL, PASS};
 use crate::layout::{fields, C3, C5};
 use crate::line::up;
+use crate::sets::{CriteriaSet, CODE};
 
 /// What stands for a tank.
-type Kind = fn(Block) -> Vec<Block>;
+pub type Kind = fn(Block) -> Vec<Block>;
 
-const EITHER: [(&str, Kind); 2] = [("C3", |tank| vec![tank]), ("C5", |tank| vec![cargo(tank)])];
-const BOTH: (&str, Kind) = ("C3 and C5", |tank| vec![tank.clone(), cargo(tank)]);
+pub const EITHER: [(&str, Kind); 2] = [("C3", |tank| vec![tank]), ("C5", |tank| vec![cargo(tank)])];
+pub const BOTH: (&str, Kind) = ("C3 and C5", |tank| vec![tank.clone(), cargo(tank)]);
 
 pub fn add(cases: &mut Cases) {
     add_fills(cases);
@@ -54,15 +55,20 @@ fn add_fills(cases: &mut Cases) {
         for depth in [0, 4] {
             let name = format!("fill {fill} mass {mass} depth {depth}");
             cases.add_twins(&[EITHER[0], EITHER[1], BOTH], &name, move |dice, kind| {
-                let vessel = vessel::judged(dice);
-                let tested = kind(tank(mass, vessel.kg, fill, 1_025, 30));
-                let rest = vessel.mass - mass * tested.len() as i128;
-                let mut entries = nested(depth, tested);
-                entries.push(item(rest, vessel.kg));
-                vessel.draft(entries).text()
+                filled(dice, (fill, mass), depth, kind).text()
             });
         }
     }
+}
+
+/// A tank, or what stands for it, so full and heavy and so deep.
+pub fn filled(dice: &mut Dice, (fill, mass): (i128, i128), depth: usize, kind: Kind) -> Draft {
+    let vessel = vessel::judged(dice);
+    let tested = kind(tank(mass, vessel.kg, fill, 1_025, 30));
+    let rest = vessel.mass - mass * tested.len() as i128;
+    let mut entries = nested(depth, tested);
+    entries.push(item(rest, vessel.kg));
+    vessel.draft(entries)
 }
 
 /// Each field at its limits and one beyond, and the greatest tank there can
@@ -253,7 +259,7 @@ fn add_faults(cases: &mut Cases) {
 }
 
 /// The planner's tank: 98.5 % full, with a tenth of the ship's mass.
-fn planned(vessel: &Vessel, inertia: i128, kind: Kind) -> Vec<u8> {
+pub fn planned(vessel: &Vessel, inertia: i128, kind: Kind) -> Vec<u8> {
     let part = vessel.mass / 10;
     let mut entries = kind(tank(part, vessel.kg, 985, 1_025, inertia));
     entries.push(item(vessel.mass - part, vessel.kg));
@@ -270,29 +276,37 @@ fn add_planner(cases: &mut Cases) {
     for gm in [149, 150] {
         let name = format!("planner's tank, GM {gm} with its surface");
         cases.add_twins(&EITHER, &name, move |dice, kind| {
-            let mut vessel = vessel::judged(dice);
-            let inertia = vessel.mass / 5_000;
-            vessel.set_gm(gm + up(1_025_000 * inertia, vessel.mass));
+            let (vessel, inertia) = left_with(dice, &CODE, gm);
             planned(&vessel, inertia, kind)
         });
     }
     for criterion in 1..=8 {
         let name = format!("planner's tank, criterion {criterion}");
         cases.add_twins(&EITHER, &name, move |dice, kind| {
-            let (vessel, inertia) = turned(dice, criterion);
+            let (vessel, inertia) = turned(dice, &CODE, criterion);
             planned(&vessel, inertia, kind)
         });
     }
 }
 
+/// A ship and a surface that leaves her this GM.
+pub fn left_with(dice: &mut Dice, set: &'static CriteriaSet, gm: i128) -> (Vessel, i128) {
+    let mut vessel = vessel::judged(dice);
+    vessel.criteria = set;
+    let inertia = vessel.mass / 5_000;
+    vessel.set_gm(gm + up(1_025_000 * inertia, vessel.mass));
+    (vessel, inertia)
+}
+
 const TRIES: usize = 300;
 
-/// A ship and a surface by which a pass of the criterion becomes a fail. For
-/// the angle of criterion 5 she has a crest at 25 degrees and one at 20, for
-/// criterion 8 a wind that may be strong.
-fn turned(dice: &mut Dice, criterion: usize) -> (Vessel, i128) {
+/// A ship and a surface by which a pass of the set's criterion becomes a fail.
+/// For the angle of criterion 5 she has a crest at 25 degrees and one at 20,
+/// for criterion 8 a wind that may be strong.
+pub fn turned(dice: &mut Dice, set: &'static CriteriaSet, criterion: usize) -> (Vessel, i128) {
     let mut draw = || {
         let mut vessel = vessel::judged(dice);
+        vessel.criteria = set;
         if criterion == 5 {
             crest(&mut vessel, 4);
             crest(&mut vessel, 5);

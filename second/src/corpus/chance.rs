@@ -2,12 +2,13 @@
 //! blocks, and sound texts with bytes and lines changed.
 
 use super::dice::Dice;
-use super::draft::{item, tank, Draft};
+use super::draft::{item, tank, Block, Draft};
 use super::faults::apply_any;
 use super::load::{grouped, mixed, spread};
-use super::vessel;
+use super::vessel::{self, Vessel};
 use super::winds::blow;
-use crate::layout::fields;
+use crate::layout::{fields, C1, C6};
+use crate::sets::SETS;
 
 const LONGEST: usize = 20_000;
 
@@ -35,8 +36,16 @@ fn sound(dice: &mut Dice, small: bool) -> Draft {
     };
     let vessel = vessel::any(dice, rows);
     let entries = spread(dice, &vessel, entries);
+    laid_out(dice, vessel, entries)
+}
+
+/// The vessel with these entries, some tanks as cargo tanks and some entries
+/// in groups, by any of the sets of criteria.
+fn laid_out(dice: &mut Dice, mut vessel: Vessel, entries: Vec<Block>) -> Draft {
     let entries = mixed(dice, entries);
-    vessel.draft(grouped(dice, entries))
+    let entries = grouped(dice, entries);
+    vessel.criteria = dice.pick(&SETS);
+    vessel.draft(entries)
 }
 
 /// A ship that criterion 8 judges, under any wind and with any flooding.
@@ -49,8 +58,7 @@ fn windy(dice: &mut Dice) -> Vec<u8> {
     let gm = dice.between(400, 2_500);
     vessel.set_gm(gm);
     let entries = spread(dice, &vessel, 3);
-    let entries = mixed(dice, entries);
-    vessel.draft(grouped(dice, entries)).text()
+    laid_out(dice, vessel, entries).text()
 }
 
 /// A corrected KG around its highest.
@@ -60,8 +68,8 @@ fn high(dice: &mut Dice) -> Vec<u8> {
     let (one, other) = (60_000 - dice.between(0, 4), 60_000 - dice.between(0, 4));
     let inertia = dice.between(0, vessel.mass / 250_000);
     let surface = tank(part, other, dice.between(900, 1_000), 1_025, inertia);
-    let entries = mixed(dice, vec![item(vessel.mass - part, one), surface]);
-    vessel.draft(grouped(dice, entries)).text()
+    let entries = vec![item(vessel.mass - part, one), surface];
+    laid_out(dice, vessel, entries).text()
 }
 
 /// Some values set anywhere within their limits, or anywhere at all.
@@ -88,7 +96,8 @@ fn valued(dice: &mut Dice, small: bool, within: bool) -> Vec<u8> {
 }
 
 /// One to three faults of blocks; the later ones are put in first, so that
-/// the paths of the others still lead somewhere.
+/// the paths of the others still lead somewhere. One in six is the tag of a
+/// weather block.
 fn faulty(dice: &mut Dice, small: bool) -> Vec<u8> {
     let mut draft = sound(dice, small);
     let all = draft.paths();
@@ -96,7 +105,11 @@ fn faulty(dice: &mut Dice, small: bool) -> Vec<u8> {
     paths.sort();
     paths.dedup();
     for path in paths.iter().rev() {
-        apply_any(dice, &mut draft, path);
+        if dice.index(6) == 0 {
+            draft.at(path).tag = dice.pick(&[C1, C6]);
+        } else {
+            apply_any(dice, &mut draft, path);
+        }
     }
     draft.text()
 }

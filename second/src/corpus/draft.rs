@@ -3,7 +3,8 @@
 //! behind it that it does not count.
 
 use crate::book::{Row, Ship, Weather};
-use crate::layout::{self, A1, A2, A3, C1, C2, C3, C4, C5};
+use crate::layout::{self, A1, A2, A3, C2, C3, C4, C5};
+use crate::sets::CriteriaSet;
 
 #[derive(Clone, Debug)]
 pub struct Block {
@@ -78,7 +79,7 @@ pub fn row(row: &Row) -> Block {
     Block::new(A2, values, Vec::new())
 }
 
-pub fn condition(weather: &Weather, entries: Vec<Block>) -> Block {
+pub fn weather(set: &CriteriaSet, weather: &Weather) -> Block {
     let Weather {
         wind_area,
         arm,
@@ -87,7 +88,11 @@ pub fn condition(weather: &Weather, entries: Vec<Block>) -> Block {
         deck_edge,
     } = *weather;
     let values = vec![wind_area, arm, block_coefficient, flooding, deck_edge];
-    let mut inner = vec![Block::new(C1, values, Vec::new())];
+    Block::new(set.tag, values, Vec::new())
+}
+
+pub fn condition(set: &CriteriaSet, of_weather: &Weather, entries: Vec<Block>) -> Block {
+    let mut inner = vec![weather(set, of_weather)];
     inner.extend(entries);
     Block::new(A3, Vec::new(), inner)
 }
@@ -102,10 +107,15 @@ pub fn tank(mass: i128, centre: i128, fill: i128, density: i128, inertia: i128) 
 
 /// A tank as a cargo tank of the same values.
 pub fn cargo(tank: Block) -> Block {
+    recast(tank, C5)
+}
+
+/// A block as another kind of block with the same fields.
+fn recast(block: Block, tag: u8) -> Block {
     Block {
-        form: C5,
-        tag: C5,
-        ..tank
+        form: tag,
+        tag,
+        ..block
     }
 }
 
@@ -136,6 +146,13 @@ impl Draft {
     pub fn condition(&mut self) -> &mut Block {
         let last = self.frames.len() - 1;
         &mut self.frames[last]
+    }
+
+    /// The same draft with its weather as the block that chooses another set.
+    pub fn judged_by(mut self, set: &CriteriaSet) -> Draft {
+        let first = &mut self.condition().inner[0];
+        *first = recast(first.clone(), set.tag);
+        self
     }
 
     /// The block at a path: a frame's index, then indices within blocks.

@@ -4,8 +4,8 @@ use super::cases::Cases;
 use super::dice::Dice;
 use super::solve::{area, lever, Search};
 use super::vessel::{self, Vessel};
-use crate::criteria::{AREA_30_TO_40, AREA_TO_30, AREA_TO_40, GREATEST_LEVER};
 use crate::curve::SINES;
+use crate::sets::CODE;
 
 const TO_30: Search = Search {
     flooding: (230, 330),
@@ -30,7 +30,7 @@ const FROM_30: Search = Search {
     prepare: |_| (),
 };
 
-const TO_40: Search = Search {
+pub const TO_40: Search = Search {
     flooding: (310, 430),
     weights: |flooding| area(0, flooding.min(400)),
     from: 1,
@@ -57,11 +57,12 @@ fn lowered(vessel: &mut Vessel) {
 
 pub fn add(cases: &mut Cases) {
     for (number, exact, beside, limit) in [
-        (1, &TO_30, &TO_15, AREA_TO_30),
-        (2, &FROM_30, &FROM_30, AREA_30_TO_40),
-        (3, &TO_40, &TO_40, AREA_TO_40),
-        (4, &GREATEST, &GREATEST, GREATEST_LEVER),
+        (1, &TO_30, &TO_15, CODE.area_to_30),
+        (2, &FROM_30, &FROM_30, CODE.area_30_to_40),
+        (3, &TO_40, &TO_40, CODE.area_to_40),
+        (4, &GREATEST, &GREATEST, CODE.greatest_lever),
     ] {
+        let limit = limit.unwrap_or_default();
         for (search, off) in [(beside, -1), (exact, 0), (beside, 1)] {
             cases.add(format!("criterion {number} limit {off:+}"), move |dice| {
                 let vessel = solved(dice, search, limit + off);
@@ -81,7 +82,7 @@ pub fn add(cases: &mut Cases) {
 }
 
 /// The first of the seed's vessels that can be solved for.
-fn solved(dice: &mut Dice, search: &Search, wanted: i128) -> Vessel {
+pub fn solved(dice: &mut Dice, search: &Search, wanted: i128) -> Vessel {
     let mut vessel = vessel::judged(dice);
     for _ in 0..20 {
         if let Some(found) = search.vessel(dice, &vessel, wanted) {
@@ -127,6 +128,16 @@ fn add_angles(cases: &mut Cases) {
 
 /// Equal greatest levers at two stations: the KG is one at which the sines'
 /// difference is a whole number of millimetres.
+pub fn tied(dice: &mut Dice, first: usize, second: usize, kg: i128) -> Vessel {
+    let mut vessel = vessel::judged(dice);
+    vessel.raise_to(kg);
+    vessel.weather.flooding = 600;
+    crest(&mut vessel, first);
+    let row = vessel.laden();
+    row.kn[second] = row.kn[first] + kg * (SINES[second] - SINES[first]) / 100_000;
+    vessel
+}
+
 fn add_ties(cases: &mut Cases) {
     for (first, second, kg) in [
         (3, 5, 5_000),
@@ -139,15 +150,7 @@ fn add_ties(cases: &mut Cases) {
     ] {
         cases.add(
             format!("equal levers at stations {first} and {second}, KG {kg}"),
-            move |dice| {
-                let mut vessel = vessel::judged(dice);
-                vessel.raise_to(kg);
-                vessel.weather.flooding = 600;
-                crest(&mut vessel, first);
-                let row = vessel.laden();
-                row.kn[second] = row.kn[first] + kg * (SINES[second] - SINES[first]) / 100_000;
-                vessel.text(dice)
-            },
+            move |dice| tied(dice, first, second, kg).text(dice),
         );
     }
     cases.add("all levers 0", |dice| {

@@ -5,7 +5,7 @@ use super::cases::Cases;
 use super::dice::Dice;
 use super::draft::{item, nested, tank, Draft};
 use super::vessel;
-use crate::layout::{fields, A1, A2, A3, C1, C4};
+use crate::layout::{fields, A1, A2, A3, C1, C4, C6};
 
 #[derive(Clone, Copy, Debug, PartialEq)]
 pub enum Fault {
@@ -24,7 +24,7 @@ pub enum Fault {
     /// Bytes that stand in the parent where a block would begin.
     Stray(usize),
     Empty,
-    /// A3 with its C1 alone, or a group with its first entry alone.
+    /// A3 with its weather alone, or a group with its first entry alone.
     First,
     Value,
 }
@@ -44,7 +44,7 @@ const OF_FRAME: [Fault; 11] = [
     Empty,
     Value,
 ];
-const OF_CONDITION: [Fault; 11] = [
+pub const OF_CONDITION: [Fault; 11] = [
     PastParent,
     PastAll,
     OneShort,
@@ -307,7 +307,7 @@ fn wrong_tag(dice: &mut Dice, right: u8, frame: bool) -> u8 {
     let others: &[u8] = match (right, frame) {
         (A1, _) => &[0xA2, 0xA3, 0xC1],
         (A2, _) => &[0xA1, 0xC2, 0xC4],
-        (C1, _) => &[0xC2, 0xC3, 0xC4, 0xA1],
+        (C1 | C6, _) => &[0xC2, 0xC3, 0xC4, 0xA1],
         (_, true) => &[0xA1, 0xC1, 0xC4],
         _ => &[0xC1, 0xA1, 0xA2, 0xA3],
     };

@@ -16,6 +16,7 @@ mod rolls;
 mod rows;
 mod sizes;
 mod solve;
+mod timber;
 mod vessel;
 mod winds;
 
@@ -46,6 +47,7 @@ impl Corpus {
         characters::add(&mut cases);
         sizes::add(&mut cases);
         cargo::add(&mut cases);
+        timber::add(&mut cases);
         cases.list.retain(|case| !(small && case.long));
         Corpus {
             seed,

@@ -5,11 +5,14 @@ use super::cases::Cases;
 use super::dice::Dice;
 use super::draft::{self, cargo, group, item, line, tank, Block};
 use super::vessel;
+use crate::sets::{CODE, TIMBER};
 
 /// S ship, R row, C condition; lower case s, r, c the same with its length
 /// one too long, and x, y, z with one byte left behind it; I, K, G, W, D, O
 /// frames with tags of other places, K a cargo tank's and k the same with its
-/// length one too long; 1 and 2 lines of so many bytes.
+/// length one too long; T a condition that begins with C6, M a frame with that
+/// tag and m the same with its length one too long; 1 and 2 lines of so many
+/// bytes.
 const WORDS: [&str; 62] = [
     "", "S", "SR", "SRR", "SRRR", "R", "C", "RR", "RRC", "RSRC", "CSRR", "SC", "SRC", "SRRC", "SS",
     "SSRRC", "SRSRC", "SRRSC", "SCRR", "SRCR", "SRRCS", "SRRCR", "SRRCC", "SRRCI", "SRRCD",
@@ -45,19 +48,19 @@ fn frame(dice: &mut Dice, vessel: &mut vessel::Vessel, letter: char) -> Block {
             vessel.rows[0].displacement += 1_000;
             draft::row(&vessel.rows[0])
         }
-        'C' | 'c' | 'z' => {
+        'C' | 'c' | 'z' | 'T' => {
+            let set = if letter == 'T' { &TIMBER } else { &CODE };
             let entries = vessel::level(dice, vessel.rows[0].displacement, vessel.kg);
-            draft::condition(&vessel.weather, entries)
+            draft::condition(set, &vessel.weather, entries)
         }
-        'W' => draft::condition(&vessel.weather, Vec::new())
-            .inner
-            .remove(0),
+        'W' => draft::weather(&CODE, &vessel.weather),
+        'M' | 'm' => draft::weather(&TIMBER, &vessel.weather),
         'G' => group(vec![item(5, 5)]),
         'K' | 'k' => cargo(tank(vessel.mass, vessel.kg, 985, 1_025, 9)),
         _ => item(vessel.mass, vessel.kg),
     };
     match letter {
-        's' | 'r' | 'c' | 'k' => block.declared = Some(block.body().len() + 1),
+        's' | 'r' | 'c' | 'k' | 'm' => block.declared = Some(block.body().len() + 1),
         'x' | 'y' | 'z' => block.spill = vec![0],
         'D' => block.tag = 0xD1,
         'O' => block.tag = 0,

@@ -101,7 +101,7 @@ fn add_heights(cases: &mut Cases) {
 }
 
 /// A vessel with this rolling period, by its GM and length.
-fn with_period(dice: &mut Dice, n: i128) -> Vessel {
+pub fn with_period(dice: &mut Dice, n: i128) -> Vessel {
     let mut vessel = vessel::judged(dice);
     let draught = vessel.laden().draught;
     let base = vessel.ship.length;

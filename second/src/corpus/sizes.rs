@@ -54,7 +54,7 @@ pub fn add(cases: &mut Cases) {
 }
 
 /// So many items and a few tanks, grouped at random.
-fn entries(dice: &mut Dice, count: usize) -> Draft {
+pub fn entries(dice: &mut Dice, count: usize) -> Draft {
     let vessel = vessel::any(dice, 2);
     let entries = spread(dice, &vessel, count);
     vessel.draft(grouped(dice, entries))
@@ -147,7 +147,7 @@ fn surveyor(dice: &mut Dice) -> Vec<u8> {
 
 /// A text whose A3 has a body of so many bytes, with 200 entries and as many
 /// groups as that takes.
-fn full(dice: &mut Dice, rows: usize, body: usize) -> Draft {
+pub fn full(dice: &mut Dice, rows: usize, body: usize) -> Draft {
     let vessel = vessel::any(dice, rows);
     vessel.draft(filling(&vessel, body))
 }

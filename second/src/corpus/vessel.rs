@@ -5,11 +5,13 @@ use super::dice::Dice;
 use super::draft::{self, Block, Draft};
 use crate::book::{Row, Ship, Weather};
 use crate::curve::SINES;
+use crate::sets::{CriteriaSet, CODE};
 
 #[derive(Clone, Debug)]
 pub struct Vessel {
     pub ship: Ship,
     pub rows: Vec<Row>,
+    pub criteria: &'static CriteriaSet,
     pub weather: Weather,
     pub mass: i128,
     pub kg: i128,
@@ -26,7 +28,7 @@ impl Vessel {
     pub fn draft(&self, entries: Vec<Block>) -> Draft {
         let mut frames = vec![draft::ship(&self.ship)];
         frames.extend(self.rows.iter().map(draft::row));
-        frames.push(draft::condition(&self.weather, entries));
+        frames.push(draft::condition(self.criteria, &self.weather, entries));
         Draft { frames }
     }
 
@@ -183,6 +185,7 @@ pub fn any(dice: &mut Dice, count: usize) -> Vessel {
     Vessel {
         ship,
         rows,
+        criteria: &CODE,
         weather,
         mass,
         kg: (km - gm).clamp(0, 60_000),
@@ -225,6 +228,7 @@ pub fn judged_at(dice: &mut Dice, draught: i128, fullness: i128) -> Vessel {
     let mut vessel = Vessel {
         ship,
         rows,
+        criteria: &CODE,
         weather,
         mass,
         kg,

@@ -108,7 +108,7 @@ pub fn blow(vessel: &mut Vessel, lever: i128) -> bool {
 }
 
 /// A vessel with a steady heel of exactly this angle.
-fn heeled(dice: &mut Dice, heel: i128) -> Vessel {
+pub fn heeled(dice: &mut Dice, heel: i128) -> Vessel {
     let mut vessel = vessel::judged(dice);
     for _ in 0..TRIES {
         vessel.weather.flooding = 600;
@@ -173,18 +173,25 @@ fn exact_at(base: &Vessel, t: i128) -> Option<(Vessel, i128)> {
     None
 }
 
+/// Winds that leave no phi0 or no u, by how much each is stronger than the
+/// greatest lever.
+pub const NONE: [(&str, i128); 3] = [("phi0 none", 1), ("u none", 0), ("phi0 none by far", 300)];
+
+/// A vessel in a wind stronger by so much than her greatest lever.
+pub fn overblown(dice: &mut Dice, beyond: i128) -> Vessel {
+    let mut vessel = vessel::judged(dice);
+    if let Some(sailing) = sail(&vessel) {
+        let highest = sailing.curve.greatest(0..=vessel.weather.flooding);
+        let lever = highest.map_or(0, |(_, y)| y / Y_PER_MILLIMETRE);
+        blow(&mut vessel, lever + beyond);
+    }
+    vessel
+}
+
 /// A wind just too strong for phi0, one just too strong for u, and no wind.
 fn add_none(cases: &mut Cases) {
-    for (name, beyond) in [("phi0 none", 1), ("u none", 0), ("phi0 none by far", 300)] {
-        cases.add(name, move |dice| {
-            let mut vessel = vessel::judged(dice);
-            if let Some(sailing) = sail(&vessel) {
-                let highest = sailing.curve.greatest(0..=vessel.weather.flooding);
-                let lever = highest.map_or(0, |(_, y)| y / Y_PER_MILLIMETRE);
-                blow(&mut vessel, lever + beyond);
-            }
-            vessel.text(dice)
-        });
+    for (name, beyond) in NONE {
+        cases.add(name, move |dice| overblown(dice, beyond).text(dice));
     }
     cases.add("no wind area", |dice| {
         let mut vessel = vessel::judged(dice);
@@ -199,26 +206,31 @@ fn add_none(cases: &mut Cases) {
 }
 
 /// The flooding angle at phi0 and at u, and one before each.
+pub const ENDS: [(&str, bool, i128); 4] = [
+    ("flooding at phi0", false, 0),
+    ("flooding before phi0", false, 1),
+    ("flooding at u", true, 0),
+    ("flooding before u", true, 1),
+];
+
+/// A vessel that floods so much before phi0 or u.
+pub fn ended(dice: &mut Dice, of_gust: bool, before: i128) -> Vessel {
+    let mut vessel = vessel::judged(dice);
+    if let Some(Sailing { curve, wind, .. }) = sail(&vessel) {
+        let lever = if of_gust {
+            wind.gust_lever
+        } else {
+            wind.steady_lever
+        };
+        let met = curve.first_at_least(lever * Y_PER_MILLIMETRE, 0..=600);
+        vessel.weather.flooding = (met.unwrap_or(0) - before).max(0);
+    }
+    vessel
+}
+
 fn add_ends(cases: &mut Cases) {
-    for (name, of_gust, before) in [
-        ("flooding at phi0", false, 0),
-        ("flooding before phi0", false, 1),
-        ("flooding at u", true, 0),
-        ("flooding before u", true, 1),
-    ] {
-        cases.add(name, move |dice| {
-            let mut vessel = vessel::judged(dice);
-            if let Some(Sailing { curve, wind, .. }) = sail(&vessel) {
-                let lever = if of_gust {
-                    wind.gust_lever
-                } else {
-                    wind.steady_lever
-                };
-                let met = curve.first_at_least(lever * Y_PER_MILLIMETRE, 0..=600);
-                vessel.weather.flooding = (met.unwrap_or(0) - before).max(0);
-            }
-            vessel.text(dice)
-        });
+    for (name, of_gust, before) in ENDS {
+        cases.add(name, move |dice| ended(dice, of_gust, before).text(dice));
     }
 }
 
@@ -266,7 +278,7 @@ fn balanced(vessel: &mut Vessel) -> bool {
 }
 
 /// A vessel with this net area, or the nearest that was met.
-fn net(dice: &mut Dice, wanted: i128) -> Vessel {
+pub fn net(dice: &mut Dice, wanted: i128) -> Vessel {
     let sines = sine_curve();
     let mut vessel = vessel::judged(dice);
     for _ in 0..TRIES {

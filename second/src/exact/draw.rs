@@ -7,6 +7,7 @@ use crate::corpus::draft::{self, Block, Draft};
 use crate::curve::SINES;
 use crate::line::up;
 use crate::loading::laden;
+use crate::sets::CODE;
 
 /// Levers at the stations in thousandths of the greatest.
 type Form = [i128; 13];
@@ -108,7 +109,11 @@ fn drawn(dice: &mut Dice, form: &Form) -> Document {
     Document {
         rows: rows(dice, mass, &middle),
         ship,
-        condition: Condition { weather, entries },
+        condition: Condition {
+            criteria: &CODE,
+            weather,
+            entries,
+        },
     }
 }
 
@@ -170,8 +175,13 @@ pub fn lift(document: &mut Document, station: usize, more: i128) -> bool {
 pub fn text(document: &Document) -> Vec<u8> {
     let mut frames = vec![draft::ship(&document.ship)];
     frames.extend(document.rows.iter().map(draft::row));
-    let entries = document.condition.entries.iter().map(block).collect();
-    frames.push(draft::condition(&document.condition.weather, entries));
+    let Condition {
+        criteria,
+        weather,
+        entries,
+    } = &document.condition;
+    let entries = entries.iter().map(block).collect();
+    frames.push(draft::condition(criteria, weather, entries));
     Draft { frames }.text()
 }
 

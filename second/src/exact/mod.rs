@@ -18,6 +18,8 @@ mod words;
 
 #[cfg(test)]
 mod tests;
+#[cfg(test)]
+mod tests_timber;
 
 pub use search::Search;
 pub use show::table;

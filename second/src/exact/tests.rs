@@ -4,7 +4,7 @@
 
 use std::path::PathBuf;
 
-use super::draw::text as written;
+pub use super::draw::text as written;
 use super::fraction::Fraction;
 use super::hull::Hull;
 use super::levers::Levers;
@@ -14,9 +14,10 @@ use super::weather::{Verdicts, Weather};
 use super::words::{angles, word};
 use crate::book::Document;
 use crate::corpus::Corpus;
-use crate::criteria::{judge_document, AREA_30_TO_40, AREA_TO_30, AREA_TO_40, PASS};
+use crate::criteria::{judge_document, PASS, UNUSED};
 use crate::curve::{SINES, Y_PER_MILLIMETRE};
 use crate::parse::document;
+use crate::sets::{CODE, TIMBER};
 use crate::text::lines;
 
 fn read(text: &str) -> Document {
@@ -29,7 +30,7 @@ fn kept(name: &str) -> Kept {
     found.unwrap_or_else(|| panic!("no rounding {name}")).1
 }
 
-fn exact(document: &Document, name: &str) -> Verdicts {
+pub fn exact(document: &Document, name: &str) -> Verdicts {
     Verdicts::of(document, kept(name)).expect("the text lies on its rows")
 }
 
@@ -58,8 +59,8 @@ fn assert_as_used(document: &Document, exact: &Verdicts) {
 #[test]
 fn with_no_value_kept_the_verdicts_are_document_01s() {
     let corpus = Corpus::new(7, true);
-    let mut judged = 0;
-    for number in 0..3_100 {
+    let (mut judged, mut timber) = (0, 0);
+    for number in 0..3_500 {
         let text = corpus.text(number);
         let Ok(document) = lines(&text).and_then(|lines| document(&lines)) else {
             continue;
@@ -72,9 +73,10 @@ fn with_no_value_kept_the_verdicts_are_document_01s() {
             let verdicts = Verdicts::of(&document, Kept::NONE).expect("on its rows");
             assert_as_used(&document, &verdicts);
             judged += 1;
+            timber += u32::from(verdicts.fifth() == UNUSED);
         }
     }
-    assert!(judged > 1_300);
+    assert!(judged > 1_300 && timber > 400);
 }
 
 /// Every value of this text comes out whole, the period of 5.64 s, the roll
@@ -259,7 +261,7 @@ fn the_stored_examples_are_what_is_said_of_them() {
 }
 
 /// The text of this number on the page.
-fn numbered(number: &str) -> Document {
+pub fn numbered(number: &str) -> Document {
     let found = stored()
         .into_iter()
         .find(|example| example.number == number);
@@ -413,18 +415,21 @@ fn a_short_search_bears_the_page_out() {
 }
 
 /// By how much the limits of criteria 1 to 3 are above 0.055, 0.03 and 0.09
-/// metre-radians, in y units rounded down, for pi between two fractions.
+/// metre-radians, and timber's of criterion 3 above 0.08, in y units rounded
+/// down, for pi between two fractions.
 #[test]
 fn the_limits_are_stricter_by_so_much() {
     let limits = [
-        (AREA_TO_30, 55, 12_678),
-        (AREA_30_TO_40, 30, 61_460),
-        (AREA_TO_40, 90, 84_382),
+        (CODE.area_to_30, 55, 12_678),
+        (CODE.area_30_to_40, 30, 61_460),
+        (CODE.area_to_40, 90, 84_382),
+        (TIMBER.area_to_40, 80, 63_895),
     ];
     for (limit, thousandths, stricter) in limits {
         for pi in [314_159_265_358_979, 314_159_265_358_980] {
             let radians = Fraction::of(thousandths * 180 * 10_i128.pow(22), pi);
-            assert_eq!((&Fraction::whole(limit) - &radians).floor(), stricter);
+            let limit = Fraction::whole(limit.expect("a slot that is used"));
+            assert_eq!((&limit - &radians).floor(), stricter);
         }
     }
 }

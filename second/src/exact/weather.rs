@@ -1,5 +1,6 @@
 //! Criteria 5 and 8 with each value exact or rounded, over the same
-//! straight-line curve and with the same limits.
+//! straight-line curve and with the limits of the same set of criteria. A set
+//! that leaves slot 5 unused leaves it so with exact values too.
 
 use super::fraction::Fraction;
 use super::hull::Hull;
@@ -7,10 +8,12 @@ use super::levers::Levers;
 use super::roll::{self, Held};
 use super::rounding::{Kept, Rounding};
 use crate::book::Document;
-use crate::criteria::{ANGLE_OF_GREATEST, FAIL, NOT_JUDGED, PASS, WEATHER_END};
+use crate::criteria::{at_least, FAIL, NOT_JUDGED, PASS, WEATHER_END};
 use crate::curve::Y_PER_MILLIMETRE;
+use crate::sets::CriteriaSet;
 
 pub struct Verdicts {
+    set: &'static CriteriaSet,
     /// The angle of criterion 5.
     pub peak: i128,
     pub weather: Weather,
@@ -41,17 +44,14 @@ impl Verdicts {
     /// With the wind and the roll of this hull, and these levers.
     pub fn with(document: &Document, hull: &Hull, levers: &Levers, kept: Kept) -> Verdicts {
         Verdicts {
+            set: document.condition.criteria,
             peak: levers.peak(document.condition.weather.flooding),
             weather: weather(document, hull, levers, kept),
         }
     }
 
     pub fn fifth(&self) -> u8 {
-        if self.peak >= ANGLE_OF_GREATEST {
-            PASS
-        } else {
-            FAIL
-        }
+        at_least(self.peak, self.set.angle_of_greatest)
     }
 
     /// None where the two ends of the net do not agree.

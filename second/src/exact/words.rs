@@ -1,12 +1,13 @@
 //! How a verdict and the angles of criterion 8 are written for a reader.
 
 use super::weather::{Verdicts, Weather};
-use crate::criteria::{FAIL, PASS};
+use crate::criteria::{FAIL, PASS, UNUSED};
 
 pub fn word(verdict: u8) -> &'static str {
     match verdict {
         FAIL => "fail",
         PASS => "pass",
+        UNUSED => "unused",
         _ => "unjudged",
     }
 }

@@ -1,17 +1,21 @@
 -- What stands in each column of a report: its refusal, line and offset, each verdict and each figure.
-use mathlib.Core.Path.{_≡_, refl, ap, _∙_}
+use mathlib.Core.Path.{_≡_, refl, ap, sym, _∙_}
+use mathlib.Core.Bool.{cond}
 use mathlib.Core.List.{List, [], _∷_, _++_, map}
-use Prim.Native.Nat.{ℕ, zero, suc, _+_, _*_, _≤_, _<_}
+use Prim.Native.Nat.{ℕ, zero, suc, _+_, _-_, _*_, _≤_, _<_}
 use native.Mathlib.Omega.{arith}
 use lib.IntN.{ℤ, pos}
-use lib.ListN.{length, take, drop, getD, length-drop}
+use lib.Dec.{eqb}
+use lib.ListN.{length, take, drop, getD, length-drop, length-map}
 use lib.Seq.{take-at, take-append-le, drop-append-le, drop-append-add, drop-drop}
-use Rattle.rules.specs.Numbers.{digits, twos}
+use Rattle.rules.specs.Numbers.{digits, twos, Bytes}
 use Rattle.rules.specs.Text.{LF, hex}
 use Rattle.rules.specs.Blocks.{block}
-use Rattle.rules.specs.Report.{concat, reportTag, reportBody, reportLine}
-use Rattle.rules.specs.Columns.{characters, figureIn}
-use Rattle.rules.proofs.layout.Lines.{length-hex}
+use Rattle.rules.specs.Report.{Verdict, fail, pass, unjudged, void, unused, verdictNumber, Judgement, concat, reportTag, reportBody, reportLine, report}
+use Rattle.rules.specs.Timber.{slotOf}
+use Rattle.rules.specs.Walk.{unhex}
+use Rattle.rules.specs.Columns.{characters, figureIn, verdictIn}
+use Rattle.rules.proofs.layout.Lines.{length-hex, unhex-got}
 use Rattle.rules.proofs.layout.Numbers.{length-digits}
 use Rattle.rules.proofs.answer.Length.{frame-length}
 
@@ -42,6 +46,16 @@ concat-part f m size d (x ∷ xs) zero h = let e : m * 0 ≡ 0 = omega arith in 
 concat-part f m size d (x ∷ xs) (suc i) h =
     let e : m * suc i ≡ length (f x) + m * i = omega (arith, size x) in
     rw (e, drop-append-add (f x) (concat (map f xs)) (m * i)) (concat-part f m size d xs i (omega arith))
+
+-- One byte.
+one-at : (xs ys : List ℕ) (i : ℕ) → i < length xs → take 1 (drop i (xs ++ ys)) ≡ getD xs i 0 ∷ []
+one-at [] ys i h = absurd (omega arith)
+one-at (x ∷ xs) ys zero h = refl
+one-at (x ∷ xs) ys (suc i) h = one-at xs ys i (omega arith)
+
+hex-one : (x y : ℕ) → x < 256 → y < 256 → hex (x ∷ []) ≡ hex (y ∷ []) → x ≡ y
+unfolding Bytes
+hex-one x y h g e = let q = sym (unhex-got 0 (x ∷ []) (h, tt)) ∙ (ap (unhex 0) e ∙ unhex-got 0 (y ∷ []) (g, tt)) in let z : x ≡ y = cc in z
 
 -- ---- the columns
 -- What stands behind a report does not touch them.
@@ -77,3 +91,34 @@ module _ (number line offset : ℕ) (verdicts : List ℕ) (figures : List ℤ) (
       let e : 32 + 16 * i ≡ 2 * (16 + 8 * i) = omega arith in
       let s = concat-part (λ z. digits 8 (twos z)) 8 (λ z. length-digits 8 (twos z)) (pos 0) figures i (omega arith) in
       rw e (column (16 + 8 * i) 8 (omega arith) ∙ ap (λ (s : List ℕ). hex (take 8 s)) (figure-behind i) ∙ ap hex s)
+
+  pub verdict-column : (i : ℕ) → i < 8 → verdictIn (suc i) (reportLine number line offset verdicts figures) ≡ hex (getD verdicts i 0 ∷ [])
+  verdict-column i h =
+      let e : 14 + 2 * suc i ≡ 2 * (8 + i) = omega arith in
+      rw (e, column (8 + i) 1 (omega arith), ← (drop-drop i 8 frame), verdicts-behind) (ap hex (one-at verdicts G i (omega arith)))
+
+-- ---- the verdicts
+-- A verdict is told by its number, and its number by what is written.
+abbrev verdictBy : ℕ → Verdict
+verdictBy n = cond (eqb n 0) fail (cond (eqb n 1) pass (cond (eqb n 2) unjudged (cond (eqb n 3) void unused)))
+
+by-number : (v : Verdict) → (verdictBy (verdictNumber v) ≡ v) × (verdictNumber v < 256)
+by-number fail = (refl, omega arith)
+by-number pass = (refl, omega arith)
+by-number unjudged = (refl, omega arith)
+by-number void = (refl, omega arith)
+by-number unused = (refl, omega arith)
+
+pub verdict-written : (v w : Verdict) → hex (verdictNumber v ∷ []) ≡ hex (verdictNumber w ∷ []) → v ≡ w
+verdict-written v w e = sym (by-number v .0) ∙ (ap verdictBy (hex-one (verdictNumber v) (verdictNumber w) (by-number v .1) (by-number w .1) e) ∙ by-number w .0)
+
+numbers-at : (vs : List Verdict) (i : ℕ) → i < length vs → getD (map verdictNumber vs) i 0 ≡ verdictNumber (getD vs i void)
+numbers-at [] i h = absurd (omega arith)
+numbers-at (v ∷ vs) zero h = refl
+numbers-at (v ∷ vs) (suc i) h = numbers-at vs i (omega arith)
+
+pub slot-column : (n l o : ℕ) (j : Judgement) → length (j .verdicts) ≡ 8 → length (j .figures) ≡ 11 → (i : ℕ) → i < 8 → verdictIn (suc i) (report n l o j) ≡ hex (verdictNumber (slotOf (suc i) j) ∷ [])
+unfolding report
+slot-column n l o j e f i h =
+    let k : suc i - 1 ≡ i = omega arith in
+    verdict-column n l o (map verdictNumber (j .verdicts)) (j .figures) (length-map (j .verdicts) verdictNumber ∙ e) f i h ∙ ap (λ (m : ℕ). hex (m ∷ [])) (numbers-at (j .verdicts) i (omega arith) ∙ ap (λ (m : ℕ). verdictNumber (getD (j .verdicts) m void)) (sym k))
