@@ -1,4 +1,5 @@
 pub mod Joined
 pub mod Replies
+pub mod EitherSet
 pub mod Promises
 pub mod OneAnswer

@@ -1,14 +1,14 @@
 -- What the promises rest on: the number and the report of a text step by step, by what its reading is and where its mass and KG lie.
 use mathlib.Core.Path.{_≡_, refl, ap, ap₂, sym, _∙_}
 use mathlib.Core.Bool.{Bool, true, false, _&&_}
-use mathlib.Core.List.{List, map}
+use mathlib.Core.List.{List, [], _∷_, map}
 use mathlib.Core.Logic.{_↔_, _≢_, inl, inr, ⊎-elim}
-use Prim.Native.Nat.{ℕ, _+_, _*_, _≤_, _<_}
+use Prim.Native.Nat.{ℕ, suc, _+_, _-_, _*_, _≤_, _<_}
 use native.Mathlib.Omega.{arith}
 use native.Mathlib.Decide.{decLe}
 use lib.Dec.{leb}
 use lib.IntN.{pos}
-use lib.ListN.{length, take, drop, getD}
+use lib.ListN.{length, take, drop, getD, getD-replicate}
 use lib.Seq.{take-at, drop-at}
 use borrow.Author.Tests.{leb-true, leb-false}
 use Rattle.rules.specs.Rounding.{ceil}
@@ -20,11 +20,12 @@ use Rattle.rules.specs.Outcome.{Ans, refused, got, test}
 use Rattle.rules.specs.Walk.{read}
 use Rattle.rules.specs.Leaves.{sumLeaves, SameSums, loadedWith}
 use Rattle.rules.specs.Cargo.{MadeCargo}
-use Rattle.rules.specs.Columns.{figureIn}
+use Rattle.rules.specs.Timber.{slotOf}
+use Rattle.rules.specs.Columns.{figureIn, verdictIn}
 use Rattle.rules.specs.Places.{Placed}
 use Rattle.rules.specs.Loading.{mass, moment, nominallyFull, freeSurface, weighed, inTable, displacement, correctedKG, firstMass, lastMass, greatestKG, entriesOf}
 use Rattle.rules.specs.Curve.{Loaded, loaded}
-use Rattle.rules.specs.Report.{verdictNumber, Judgement, judgement, noJudgement, report, reportLength}
+use Rattle.rules.specs.Report.{Verdict, void, verdictNumber, Judgement, judgement, noJudgement, report, reportLength}
 use Rattle.rules.specs.Answer.{judged, answered, numberOf, reportOf, number, written}
 use Rattle.rules.proofs.answer.Steps.{weighed-steps, answered-refused, answered-read, judged-refused, judged-weighed, report-refused, report-judged, number-short, written-short, number-room, written-room}
 use Rattle.rules.proofs.walk.Outcome.{test-got, test-refused}
@@ -34,7 +35,7 @@ use Rattle.rules.proofs.walk.BadLine.{one-no-line, one-too-long, lines-unless-o
 use Rattle.rules.proofs.walk.OnlyOverrun.{two-overrun}
 use Rattle.rules.proofs.answer.Placed.{place-within}
 use Rattle.rules.proofs.answer.Length.{report-length}
-use Rattle.rules.proofs.answer.Columns.{column-front, figure-column}
+use Rattle.rules.proofs.answer.Columns.{column-front, figure-column, slot-column}
 use Rattle.rules.proofs.loading.Sums.{displacement-leaves, correctedKG-leaves, judged-by-sums}
 use Rattle.rules.proofs.loading.Cargo.{sums-below, sums-full}
 use Rattle.instrument.specs.Faults.{NoLineAt, OverrunAt}
@@ -52,7 +53,7 @@ module _ (r : Reading) where
   on : inTable (r .rows) (displacement (entriesOf r)) ≡ true → (c : Bool) → leb (correctedKG (entriesOf r)) greatestKG ≡ c → weighed r ≡ test c 8 0 0
   on e c p = weighed-steps r ∙ test-got 7 0 0 _ e ∙ ap (λ (b : Bool). test b 8 0 0) p
 
-  weighed-cases : {X : Type 0} → (Outside r → weighed r ≡ refused 7 0 0 → X) → (TooHigh r → weighed r ≡ refused 8 0 0 → X) → (Neither r → weighed r ≡ got tt → X) → X
+  pub weighed-cases : {X : Type 0} → (Outside r → weighed r ≡ refused 7 0 0 → X) → (TooHigh r → weighed r ≡ refused 8 0 0 → X) → (Neither r → weighed r ≡ got tt → X) → X
   unfolding test
   weighed-cases {X} f g h = go (leb (firstMass (r .rows)) (displacement (entriesOf r))) (leb (displacement (entriesOf r)) (lastMass (r .rows))) (leb (correctedKG (entriesOf r)) greatestKG) refl refl refl
     where
@@ -74,9 +75,13 @@ module _ (r : Reading) where
   apart O I = ⊎-elim (λ l. omega arith) (λ l. omega arith) O
 
 -- ---- the report is 209 characters
-judgement-length : (c : Loaded) → (length (map verdictNumber (judgement c .verdicts)) ≡ 8) × (length (judgement c .figures) ≡ 11)
+pub judgement-length : (c : Loaded) → (length (map verdictNumber (judgement c .verdicts)) ≡ 8) × (length (judgement c .figures) ≡ 11)
 unfolding judgement
 judgement-length c = (refl, refl)
+
+eight : (c : Loaded) → length (judgement c .verdicts) ≡ 8
+unfolding judgement
+eight c = refl
 
 refusal-length : (n l o : ℕ) → length (reportOf (refused n l o)) ≡ reportLength
 refusal-length n l o = rw (report-refused n l o) (report-length n l o _ _ refl refl)
@@ -86,7 +91,7 @@ judged-length c = rw (report-judged (judgement c)) (report-length 0 0 0 _ _ (jud
 
 -- ---- the answer of a text
 module _ (t : List ℕ) where
-  by-reading : {X : Type 0} → ((n l o : ℕ) → read t ≡ refused n l o → X) → ((r : Reading) → read t ≡ got r → X) → X
+  pub by-reading : {X : Type 0} → ((n l o : ℕ) → read t ≡ refused n l o → X) → ((r : Reading) → read t ≡ got r → X) → X
   by-reading {X} f g = go (read t) refl
     where
       go : (a : Ans Reading) → read t ≡ a → X
@@ -99,7 +104,7 @@ module _ (t : List ℕ) where
   pub read-of : (a : Allowed t) → read t ≡ got (a .0)
   read-of a = rw (← (a .2)) (complete (a .0) (a .1))
 
-  off-answer : (r : Reading) → read t ≡ got r → {n l o : ℕ} → weighed r ≡ refused n l o → answered t ≡ refused n l o
+  pub off-answer : (r : Reading) → read t ≡ got r → {n l o : ℕ} → weighed r ≡ refused n l o → answered t ≡ refused n l o
   off-answer r e w = answered-read t r e ∙ judged-refused r w
 
   fine-answer : (r : Reading) → read t ≡ got r → weighed r ≡ got tt → answered t ≡ got (judgement (loaded r))
@@ -152,12 +157,37 @@ module _ (t before : List ℕ) (n : ℕ) (after : List ℕ) (N : n ≡ number t 
     pub of-reading : (r : Reading) → read t ≡ got r → (n ≡ numberOf (judged r)) × (take reportLength after ≡ reportOf (judged r))
     of-reading r e = let a = answered-read t r e in (numbered ∙ ap numberOf a, front ∙ ap reportOf a)
 
+    -- What is judged was weighed.
+    pub judged-by : {X : Type 0} → n ≡ 0 → (a : Allowed t) → (weighed (a .0) ≡ got tt → X) → X
+    judged-by z a f =
+        let r = a .0 in
+        let e = read-of t a in
+        weighed-cases r (λ _ w. absurd (omega (arith, weighing-sent r e 7 w .0))) (λ _ w. absurd (omega (arith, weighing-sent r e 8 w .0))) (λ _ w. f w)
+
+    -- ---- the verdicts
+    verdict-sent : (i : ℕ) → i < 8 → verdictIn (suc i) after ≡ verdictIn (suc i) (reportOf (answered t))
+    verdict-sent i l = ap (verdictIn (suc i)) (W ∙ written-room t before h) ∙ column-front (reportOf (answered t)) (drop reportLength before) (14 + 2 * suc i) 2 (omega (arith, answer-length t))
+
+    -- On a refusal each is 3.
+    pub verdict-refused : (m l o : ℕ) → answered t ≡ refused m l o → (i : ℕ) → i < 8 → verdictIn (suc i) after ≡ hex (verdictNumber void ∷ [])
+    verdict-refused m l o a i k =
+        let e : suc i - 1 ≡ i = omega arith in
+        let three : slotOf (suc i) noJudgement ≡ void = rw e (getD-replicate 8 i void void k) in
+        verdict-sent i k ∙ ap (λ (x : Ans Judgement). verdictIn (suc i) (reportOf x)) a ∙ ap (verdictIn (suc i)) (report-refused m l o)
+        ∙ slot-column m l o noJudgement refl refl i k ∙ ap (λ (v : Verdict). hex (verdictNumber v ∷ [])) three
+
+    pub verdict-judged : (r : Reading) → read t ≡ got r → weighed r ≡ got tt → (i : ℕ) → i < 8 → verdictIn (suc i) after ≡ hex (verdictNumber (slotOf (suc i) (judgement (loaded r))) ∷ [])
+    verdict-judged r e w i k =
+        let j = judgement (loaded r) in
+        verdict-sent i k ∙ ap (λ (x : Ans Judgement). verdictIn (suc i) (reportOf x)) (fine-answer t r e w) ∙ ap (verdictIn (suc i)) (report-judged j)
+        ∙ slot-column 0 0 0 j (eight (loaded r)) (judgement-length (loaded r) .1) i k
+
     -- ---- the figures of W and KG
     figure-sent : (i : ℕ) → i < 11 → figureIn i after ≡ figureIn i (reportOf (answered t))
     figure-sent i l = ap (figureIn i) (W ∙ written-room t before h) ∙ column-front (reportOf (answered t)) (drop reportLength before) (32 + 16 * i) 16 (omega (arith, answer-length t))
 
     module _ (a : Allowed t) (w : weighed (a .0) ≡ got tt) where
-      figure-is : (i : ℕ) → i < 11 → figureIn i after ≡ hex (digits 8 (twos (getD (judgement (loaded (a .0)) .figures) i (pos 0))))
+      pub figure-is : (i : ℕ) → i < 11 → figureIn i after ≡ hex (digits 8 (twos (getD (judgement (loaded (a .0)) .figures) i (pos 0))))
       figure-is i l =
           let c = loaded (a .0) in
           figure-sent i l ∙ ap (λ (x : Ans Judgement). figureIn i (reportOf x)) (fine-answer t (a .0) (read-of t a) w) ∙ ap (figureIn i) (report-judged (judgement c))
@@ -173,10 +203,7 @@ module _ (t before : List ℕ) (n : ℕ) (after : List ℕ) (N : n ≡ number t 
 
     pub figures-of-leaves : n ≡ 0 → (a : Allowed t) → (figureIn 0 after ≡ hex (digits 8 (sumLeaves mass (a .0 .condition .load))))
         × (figureIn 1 after ≡ hex (digits 8 (ceil (sumLeaves moment (a .0 .condition .load) + sumLeaves freeSurface (a .0 .condition .load)) (sumLeaves mass (a .0 .condition .load)))))
-    figures-of-leaves z a =
-        let r = a .0 in
-        let e = read-of t a in
-        weighed-cases r (λ _ w. absurd (omega (arith, weighing-sent r e 7 w .0))) (λ _ w. absurd (omega (arith, weighing-sent r e 8 w .0))) (λ _ w. (W-figure a w, KG-figure a w))
+    figures-of-leaves z a = judged-by z a (λ w. (W-figure a w, KG-figure a w))
 
     -- The same of a reading with one of its tanks, filled to 98 % or more, made a cargo tank.
     pub figures-made-cargo : n ≡ 0 → (r : Reading) (v : Tank) (G : Entries) → read t ≡ got (loadedWith r G) → MadeCargo v (r .condition .load) G → nominallyFull ≤ v .fill

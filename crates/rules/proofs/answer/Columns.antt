@@ -11,7 +11,7 @@ use lib.Seq.{take-at, take-append-le, drop-append-le, drop-append-add, drop-drop
 use Rattle.rules.specs.Numbers.{digits, twos, Bytes}
 use Rattle.rules.specs.Text.{LF, hex}
 use Rattle.rules.specs.Blocks.{block}
-use Rattle.rules.specs.Report.{Verdict, fail, pass, unjudged, void, unused, verdictNumber, Judgement, concat, reportTag, reportBody, reportLine, report}
+use Rattle.rules.specs.Report.{Verdict, fail, pass, unjudged, void, unused, verdictNumber, Judgement, concat, reportTag, reportBody, reportLine}
 use Rattle.rules.specs.Timber.{slotOf}
 use Rattle.rules.specs.Walk.{unhex}
 use Rattle.rules.specs.Columns.{characters, figureIn, verdictIn}
@@ -117,8 +117,7 @@ numbers-at [] i h = absurd (omega arith)
 numbers-at (v ∷ vs) zero h = refl
 numbers-at (v ∷ vs) (suc i) h = numbers-at vs i (omega arith)
 
-pub slot-column : (n l o : ℕ) (j : Judgement) → length (j .verdicts) ≡ 8 → length (j .figures) ≡ 11 → (i : ℕ) → i < 8 → verdictIn (suc i) (report n l o j) ≡ hex (verdictNumber (slotOf (suc i) j) ∷ [])
-unfolding report
+pub slot-column : (n l o : ℕ) (j : Judgement) → length (j .verdicts) ≡ 8 → length (j .figures) ≡ 11 → (i : ℕ) → i < 8 → verdictIn (suc i) (reportLine n l o (map verdictNumber (j .verdicts)) (j .figures)) ≡ hex (verdictNumber (slotOf (suc i) j) ∷ [])
 slot-column n l o j e f i h =
     let k : suc i - 1 ≡ i = omega arith in
     verdict-column n l o (map verdictNumber (j .verdicts)) (j .figures) (length-map (j .verdicts) verdictNumber ∙ e) f i h ∙ ap (λ (m : ℕ). hex (m ∷ [])) (numbers-at (j .verdicts) i (omega arith) ∙ ap (λ (m : ℕ). verdictNumber (getD (j .verdicts) m void)) (sym k))

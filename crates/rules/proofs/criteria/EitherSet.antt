@@ -51,7 +51,7 @@ module _ (c : Loaded) where
   unfolding noGust passes8 net phi0 phi1 lw1 lw2 roll.start roll.u roll.e roll.p roll.k roll.x1 roll.x2 roll.s roll.b roll.period roll.q roll.C
   gust-in s = (refl, refl)
 
-  pub eighth-in : (s : Set) → verdict8 (loadedIn s c) ≡ verdict8 c
+  eighth-in : (s : Set) → verdict8 (loadedIn s c) ≡ verdict8 c
   unfolding verdict8
   eighth-in s = λ i. elim (not-judged-in s i) [ true ↦ unjudged | false ↦ elim (gust-in s .0 i) [ true ↦ fail | false ↦ verdict (gust-in s .1 i) ] ]
 
@@ -61,6 +61,11 @@ pub verdicts-are : (c : Loaded) → judgement c .verdicts
     ∷ slot (uses c 6) (verdict (passes6 c)) ∷ slot (uses c 7) (verdict (passes7 c)) ∷ slot (uses c 8) (verdict8 c) ∷ []
 unfolding judgement
 verdicts-are c = refl
+
+-- 8 reads the same in every set.
+pub eighth-slot : (c : Loaded) (s : Set) → slotOf 8 (judgement (loadedIn s c)) ≡ verdict8 c
+eighth-slot c code = rw (verdicts-are (loadedIn code c)) (eighth-in c code)
+eighth-slot c timber = rw (verdicts-are (loadedIn timber c)) (eighth-in c timber)
 
 -- A slot that reads pass is used, and passes; one that reads 4 is not used, and what is judged never reads so.
 pub slot-pass : (used passes : Bool) → slot used (verdict passes) ≡ pass → (used ≡ true) × (passes ≡ true)
