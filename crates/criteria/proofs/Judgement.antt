@@ -14,7 +14,7 @@ use mir.Val.{toZ, ofZ}
 use borrow.Author.Tests.{le-leb, lt-leb}
 use Rattle.rules.specs.Blocks.{Set, code, timber}
 use Rattle.rules.specs.Curve.{Loaded, E}
-use Rattle.rules.specs.Criteria.{limitsOf, set, uses, area1, area2, area3, greatestLever, angleOfGreatest, gm, phi0, phi0Figure, passes1, passes2, passes3, passes4, passes5, passes6, passes7}
+use Rattle.rules.specs.Criteria.{limitsOf, set, area1, area2, area3, greatestLever, angleOfGreatest, gm, phi0, phi0Figure, passes4, passes7}
 use Rattle.rules.specs.Roll.{phi1, net, notJudged, noGust, passes8}
 use Rattle.rules.specs.Report.{Verdict, fail, unjudged, slot, verdict, verdictNumber, verdict8, where8, judgement}
 use Rattle.rules.proofs.criteria.Angles.{greatest-none}
@@ -37,12 +37,6 @@ lever-some code = omega arith
 lever-some timber = omega arith
 
 module _ (c : Loaded) where
-  pub verdicts-are : judgement c .verdicts
-      ≡ slot (uses c 1) (verdict (passes1 c)) ∷ slot (uses c 2) (verdict (passes2 c)) ∷ slot (uses c 3) (verdict (passes3 c)) ∷ slot (uses c 4) (verdict (passes4 c)) ∷ slot (uses c 5) (verdict (passes5 c))
-      ∷ slot (uses c 6) (verdict (passes6 c)) ∷ slot (uses c 7) (verdict (passes7 c)) ∷ slot (uses c 8) (verdict8 c) ∷ []
-  unfolding judgement
-  verdicts-are = refl
-
   pub figures-are : judgement c .figures ≡ pos (c .w) ∷ pos (c .kg) ∷ gm c ∷ area1 c ∷ area2 c ∷ area3 c ∷ greatestLever c ∷ pos (angleOfGreatest c) ∷ phi0Figure c ∷ where8 c (pos (phi1 c)) ∷ where8 c (net c) ∷ []
   unfolding judgement
   figures-are = refl
@@ -52,8 +46,8 @@ module _ (c : Loaded) where
   lever-decides = elim (decLe (set c .from) (E c)) [
     | yes h ↦ sym (lever-asked c h)
     | no h ↦
-      let l : E c < set c .from = omega arith in
-      ap (leZ (pos (set c .lever))) (greatest-none c l) ∙ le-false (pos (set c .lever)) (pos 0) (omega (arith, lever-some (c .weather .set))) ∙ sym (lever-short c l)
+        let l : E c < set c .from = omega arith in
+        ap (leZ (pos (set c .lever))) (greatest-none c l) ∙ le-false (pos (set c .lever)) (pos 0) (omega (arith, lever-some (c .weather .set))) ∙ sym (lever-short c l)
   ]
 
   -- 8, 'with its order of sentences'.

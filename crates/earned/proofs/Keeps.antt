@@ -15,7 +15,6 @@ use Rattle.rules.specs.Blocks.{Sky}
 use Rattle.rules.specs.Curve.{Loaded, area}
 use Rattle.rules.specs.Criteria as criteria
 use Rattle.rules.specs.Criteria.{Criteria, set, passes1, passes2, passes3, passes4, passes6, passes7, area1, area2, area3}
-use Rattle.rules.specs.Report.{pass, slot, verdict}
 use Rattle.rules.proofs.rounding.Signed.{at-least, le-true}
 use Rattle.earned.specs.Order.{NoLess, Hull, Better, finer, curve, Follows}
 use Rattle.earned.specs.Verdicts.{Criterion, one, two, three, four, six, seven, limitOver, greatestLever, phi0, passesOver, passes, used, Behind}
@@ -33,12 +32,6 @@ either false b b′ g h = g h
 
 less : (a b n : ℕ) → b ≤ a → leb a n ≡ true → leb b n ≡ true
 less a b n l h = le-leb b n (omega (arith, leb-true a n h))
-
--- A slot that reads pass.
-pub asked : (used passed : Bool) → slot used (verdict passed) ≡ pass → (used ≡ true) × (passed ≡ true)
-asked true true e = (refl, refl)
-asked true false e = absurd (let z : _≡_ {A = ℕ} 0 1 = cc in omega arith)
-asked false passed e = absurd (let z : _≡_ {A = ℕ} 0 1 = cc in omega arith)
 
 -- ---- from the denominator D to D′, under one sky
 module _ (m n D D′ : ℕ) (some : 0 < n) (scale : n * D′ ≤ m * D) (s : Criteria) (c : Sky) (h h′ : Hull) (better : Better m n h h′) where

@@ -22,6 +22,7 @@ use Rattle.rules.specs.Ranges.{Fair}
 use Rattle.rules.specs.Answer.{answered}
 use Rattle.rules.proofs.rounding.Signed.{Le, le-true, up-mull, dn-mull}
 use Rattle.rules.proofs.loading.Fair.{fair}
+use Rattle.rules.proofs.criteria.EitherSet.{slot-pass}
 use Rattle.rules.proofs.criteria.Ranges.{judged, phi1-from}
 use Rattle.earned.specs.Order.{NoLess, Hull, finer, Better, curve, Follows}
 use Rattle.earned.specs.Verdicts.{Criterion, one, two, three, four, six, seven, passesOver, passesFifth, passes, place, used, Behind}
@@ -64,7 +65,7 @@ verdict-is seven c = refl
 
 -- And so what the report says to pass, its set uses and asks.
 pub pass-is-asked : (k : Criterion) (c : Loaded) → getD (judgement c .verdicts) (place k) void ≡ pass → (uses c (suc (place k)) ≡ true) × (passes k c ≡ true)
-pass-is-asked k c e = keeping.asked (uses c (suc (place k))) (passes k c) (sym (verdict-is k c) ∙ e)
+pass-is-asked k c e = slot-pass (uses c (suc (place k))) (passes k c) (sym (verdict-is k c) ∙ e)
 
 -- Take any exact values, over any denominator, that were rounded to those used: KG and lw1 no greater, KN and KM no less. A pass with the numbers used is a pass with the exact ones. So none of these six is owed to a rounding of KG, KN, KM or lw1.
 pub pass-is-earned : (D : ℕ) (h : Hull) (c : Loaded) → Behind D h c → (k : Criterion) → passes k c ≡ true → passesOver D k (set c) (c .weather .sky) h ≡ true

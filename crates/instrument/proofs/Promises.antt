@@ -1,34 +1,38 @@
 -- What is promised of the instrument, to be read without the proofs: each promise is one theorem with a sentence above it, and its proof stands elsewhere.
--- All are stated of `judge` through its contract, which `judge` is proved to meet (proofs/judge). Their words are defined in the rules' specs/: Answer, Report and Columns (what is answered, its 209 characters, and where each number stands among them), Layout (which texts are allowed), Walk (the reading), Places (where a refusal stands), Leaves and Loading (sums, masses and KG), Cargo (two texts that differ in one tag alone); and in specs/Faults (1 and 2) and Outside (7 and 8).
+-- All are stated of `judge` through its contract, which `judge` is proved to meet (proofs/judge). Their words are defined in the rules' specs/: Answer, Report and Columns (what is answered, its 209 characters, and where each number stands among them), Layout (which texts are allowed), Walk (the reading), Places (where a refusal stands), Leaves and Loading (sums, masses and KG), Tags, Cargo and Timber (two texts that differ in one tag alone, and the slots of the timber set); and in specs/Faults (1 and 2) and Outside (7 and 8).
 use mathlib.Core.Path.{_≡_, refl, sym, _∙_}
 use mathlib.Core.Logic.{_↔_, _≢_, _⊎_, ⊎-elim}
-use mathlib.Core.List.{List, []}
+use mathlib.Core.List.{List, [], _∷_}
 use Prim.Native.Nat.{ℕ, _+_, _*_, _≤_, _<_}
 use lib.ListN.{length, take, drop}
 use denote.Ref.{RefT, now}
 use Rattle.rules.specs.Rounding.{ceil}
 use Rattle.rules.specs.Numbers.{digits}
 use Rattle.rules.specs.Text.{hex, text, Lines}
-use Rattle.rules.specs.Blocks.{Tank}
+use Rattle.rules.specs.Blocks.{timber, Tank}
 use Rattle.rules.specs.Layout.{Entries, Reading, mostCharacters, Allowed}
 use Rattle.rules.specs.Outcome.{refused, got}
 use Rattle.rules.specs.Walk.{read}
 use Rattle.rules.specs.Loading.{mass, moment, freeSurface, weighed}
 use Rattle.rules.specs.Leaves.{sumLeaves, SameSums, loadedWith}
 use Rattle.rules.specs.Cargo.{MadeCargo, RetaggedLines}
+use Rattle.rules.specs.Timber.{TimberLines, UnusedSlot, EasedSlot}
 use Rattle.rules.specs.Curve.{loaded}
 use Rattle.rules.specs.Report.{judgement, noJudgement, report, reportLength}
-use Rattle.rules.specs.Columns.{figureIn}
+use Rattle.rules.specs.Columns.{figureIn, verdictIn}
 use Rattle.rules.specs.Places.{Placed}
 use Rattle.rules.specs.Answer.{answered, reportOf, number, written}
 use Rattle.rules.proofs.walk.Retagged.{refused-alike, read-made-cargo}
+use Rattle.rules.proofs.walk.Timber as weathers
 use Rattle.rules.proofs.bench.Bench.{P1, P1-output}
 use Rattle.rules.proofs.bench.CargoTank.{tanker, cargo-output, planner-holds}
+use Rattle.rules.proofs.bench.TimberDeck.{tender, tender-output, tender-timber-output, coaster, coaster-output, coaster-timber-output, timbers-hold}
 use Rattle.rules.proofs.bench.Regrouped.{regrouped, asOne, asGroup, reads-as, same-sums, two-texts}
 use Rattle.instrument.specs.Faults.{NoLineAt, OverrunAt}
 use Rattle.instrument.specs.Outside.{Outside, TooHigh, Neither}
 use Rattle.instrument.proofs.judge.Reads as judge
 use Rattle.instrument.proofs.Replies as replies
+use Rattle.instrument.proofs.EitherSet as sets
 
 -- One run of `judge` as its contract admits it: lent `text` and the buffer `before`, it sends back `n` and leaves the buffer `after`.
 -- (Post is what rattle makes of the contract itself; a: the arguments, s: the arguments at the end.)
@@ -91,6 +95,10 @@ module _ (text before : List ℕ) (n : ℕ) (after : List ℕ) (run : Judges tex
     pub counted-once : n ≡ 0 → (a : Allowed text) → (figureIn 0 after ≡ hex (digits 8 (sumLeaves mass (a .0 .condition .load))))
         × (figureIn 1 after ≡ hex (digits 8 (ceil (sumLeaves moment (a .0 .condition .load) + sumLeaves freeSurface (a .0 .condition .load)) (sumLeaves mass (a .0 .condition .load)))))
     counted-once = replies.figures-of-leaves text before n after (settled .0) (settled .1) room
+
+    -- A slot of the report reads 4, unused, exactly where the text is judged in the timber set, its weather a C6, and the slot is 1, 2 or 5. No other slot ever does, and none of a refusal.
+    pub unused-reads-four : (k : ℕ) → 1 ≤ k → k ≤ 8 → (verdictIn k after ≡ hex (4 ∷ [])) ↔ ((n ≡ 0) × ((a : Allowed text) × (a .0 .condition .weather .set ≡ timber)) × UnusedSlot k)
+    unused-reads-four = sets.unused-sent text before n after (settled .0) (settled .1) room
 
     -- ---- demand 3: which texts are judged
     -- The number is none of 1 to 6 and 9 exactly when the text is allowed.
@@ -167,3 +175,36 @@ pub planners-tank : (before before′ : List ℕ) (n n′ : ℕ) (after after′
     → (take reportLength after ≡ P1-output) × (take reportLength after′ ≡ cargo-output)
 planners-tank before before′ n n′ after after′ run run′ room room′ =
     (every-text-answered (tanker "C3") before n after run room .1 ∙ planner-holds .0, every-text-answered (tanker "C5") before′ n′ after′ run′ room′ .1 ∙ planner-holds .1 .0)
+
+-- ---- timber on deck
+-- Two texts of lines within 12,000 characters, each with room, that differ in one tag alone: a block that begins with C1 in the first, well or ill, as a frame or in a condition that fills its line, begins with C6 in the second.
+module _ (ls ls′ : List (List ℕ)) (other : TimberLines ls ls′) (L : Lines ls) (short : length (text ls) ≤ mostCharacters)
+    (before before′ : List ℕ) (n n′ : ℕ) (after after′ : List ℕ) (run : Judges (text ls) before n after) (run′ : Judges (text ls′) before′ n′ after′) (room : reportLength ≤ length before) (room′ : reportLength ≤ length before′) where
+  either : {X : Type 0} → (n ≡ number (text ls) before → after ≡ written (text ls) before → n′ ≡ number (text ls′) before′ → after′ ≡ written (text ls′) before′ → X) → X
+  either f =
+      let p = contract (text ls) before n after .0 run in
+      let q = contract (text ls′) before′ n′ after′ .0 run′ in
+      f (p .0) (p .1) (q .0) (q .1)
+
+  -- A C6 is tested as a C1: both get the same number, and where it is none but 0 the same report, and so the same place.
+  pub tested-as-weather : (n ≡ n′) × (1 ≤ n → take reportLength after ≡ take reportLength after′)
+  tested-as-weather = either (λ N W N′ W′. sets.same-number (text ls) (text ls′) before before′ n n′ after after′ N W N′ W′ room room′ (λ m l o. weathers.refused-alike other L short m l o .0) (weathers.read-in-timber other L short))
+
+  -- Where they are judged, the first by the Code's set and the second by timber's, the eleven figures are the same but for slot 4's (the seventh), and so is verdict 8.
+  pub figures-of-either-set : n ≡ 0 → ((i : ℕ) → i < 11 → i ≢ 6 → figureIn i after ≡ figureIn i after′) × (verdictIn 8 after ≡ verdictIn 8 after′)
+  figures-of-either-set z = either (λ N W N′ W′. sets.either-figures (text ls) (text ls′) before before′ n n′ after after′ N W N′ W′ room room′ (λ m l o. weathers.refused-alike other L short m l o .0) (weathers.read-in-timber other L short) z)
+
+  -- And of slots 3, 6 and 7 each that reads pass (1) by the Code reads pass as timber.
+  pub code-passes-as-timber : n ≡ 0 → (k : ℕ) → EasedSlot k → verdictIn k after ≡ hex (1 ∷ []) → verdictIn k after′ ≡ hex (1 ∷ [])
+  code-passes-as-timber z = either (λ N W N′ W′. sets.eased-slots (text ls) (text ls′) before before′ n n′ after after′ N W N′ W′ room room′ (λ m l o. weathers.refused-alike other L short m l o .0) (weathers.read-in-timber other L short) z)
+
+-- Neither set asks less than the other. A ship with a greatest lever of 0.2495 m passes all eight by the Code, and as timber fails slot 4. One that floods from 29.9° on, with the deck edge in the water at 0.1°, fails 2, 3, 4 and 7 by the Code and passes all that are used as timber. In each pair of texts the tag alone differs.
+pub neither-set-covers : (before : List ℕ) (n : ℕ) (after : List ℕ) → reportLength ≤ length before
+    → (Judges (tender "C1") before n after → take reportLength after ≡ tender-output) × (Judges (tender "C6") before n after → take reportLength after ≡ tender-timber-output)
+    × (Judges (coaster "C1") before n after → take reportLength after ≡ coaster-output) × (Judges (coaster "C6") before n after → take reportLength after ≡ coaster-timber-output)
+neither-set-covers before n after room = (
+  λ run. every-text-answered (tender "C1") before n after run room .1 ∙ timbers-hold .1 .0,
+  λ run. every-text-answered (tender "C6") before n after run room .1 ∙ timbers-hold .1 .1 .0,
+  λ run. every-text-answered (coaster "C1") before n after run room .1 ∙ timbers-hold .1 .1 .1 .0,
+  λ run. every-text-answered (coaster "C6") before n after run room .1 ∙ timbers-hold .1 .1 .1 .1 .0,
+)

@@ -1,5 +1,5 @@
 -- What is promised of the reading of a text, to be read without the proofs: each promise is one theorem with a sentence above it, and its proof stands elsewhere.
--- Its words are defined in specs/: Layout says which texts are allowed, Walk in which order they are checked, Places where blocks and refusals stand, Loading and Leaves what is summed, Cargo what it is for a C3 to be made a C5, Met what a reading comes to.
+-- Its words are defined in specs/: Layout says which texts are allowed, Walk in which order they are checked, Places where blocks and refusals stand, Loading and Leaves what is summed, Tags, Cargo and Timber what it is for a C3 to be made a C5 and a C1 a C6, Met what a reading comes to.
 use mathlib.Core.Path.{_≡_, sym}
 use mathlib.Core.Logic.{_↔_, _≢_}
 use mathlib.Core.List.{List, _∷_, _++_}
@@ -7,13 +7,14 @@ use Prim.Native.Nat.{ℕ, _+_, _*_, _≤_, _<_}
 use lib.ListN.{length, getD}
 use Rattle.rules.specs.Rounding.{ceil}
 use Rattle.rules.specs.Text.{LF, text, Lines}
-use Rattle.rules.specs.Blocks.{conditionTag, Tank, TankKind, ordinary, cargo, tank}
+use Rattle.rules.specs.Blocks.{conditionTag, code, timber, Tank, TankKind, ordinary, cargo, tank}
 use Rattle.rules.specs.Layout.{Entries, Reading, frames, spellText, leaves, mostCharacters, Limits, Allowed}
 use Rattle.rules.specs.Outcome.{refused, got}
 use Rattle.rules.specs.Walk.{linesFrom, read}
 use Rattle.rules.specs.Loading.{flat, mass, moment, freeSurfaceOf, freeSurface, displacement, correctedKG, entriesOf}
 use Rattle.rules.specs.Leaves.{sumLeaves, ungrouped, loadedWith}
 use Rattle.rules.specs.Cargo.{MadeCargo, RetaggedLines}
+use Rattle.rules.specs.Timber.{TimberLines, readingIn}
 use Rattle.rules.specs.Places.{LinesFill, SameBefore, lookedAt, LineAt, Placed}
 use Rattle.rules.specs.Met.{Met, Overruns, NoLF, NoLine, FirstNoLine}
 use Rattle.rules.specs.Answer.{judged, answered}
@@ -23,6 +24,7 @@ use Rattle.rules.proofs.layout.InsideParent.{reading-fills}
 use Rattle.rules.proofs.loading.Sums.{leaves-flat, displacement-leaves, correctedKG-leaves, flat-ungrouped, judged-same}
 use Rattle.rules.proofs.loading.Cargo.{cargo-moment, empty-none, slack-moment, forgiven, limits-alike, sums-made-cargo}
 use Rattle.rules.proofs.walk.Retagged.{refused-alike, read-made-cargo, retagged-lines}
+use Rattle.rules.proofs.walk.Timber as weathers
 use Rattle.rules.proofs.walk.OnlyOverrun.{two-overrun}
 use Rattle.rules.proofs.bench.Drawing.{drawing, drawing-refused}
 use Rattle.rules.proofs.walk.FirstFault.{fault-stands}
@@ -104,6 +106,22 @@ tag-alone ls ls′ retagged L h = read-made-cargo retagged L h
 pub every-tank-retagged : (s : List ℕ) (r : Reading) → read s ≡ got r → (t : Tank) (G : Entries) → MadeCargo t (r .condition .load) G
     → RetaggedLines (frames r) (frames (loadedWith r G)) × Lines (frames r) × (text (frames r) ≡ s) × (length s ≤ mostCharacters)
 every-tank-retagged s r e t G made = retagged-lines s r e G made
+
+-- ---- timber on deck
+-- A C6 is tested as a C1. Take a text of lines within 12,000 characters and a block in it that begins with C1: a frame, the first block of a condition that fills its line, or one further on where blocks stand end to end, in groups or not. It may be well or ill, and so may what stands before it and behind it. Let it begin with C6:
+-- the one text is refused exactly when the other is, with the same number, line and offset.
+pub tested-as-weather : (ls ls′ : List (List ℕ)) → TimberLines ls ls′ → Lines ls → length (text ls) ≤ mostCharacters → (n l o : ℕ) → (read (text ls) ≡ refused n l o) ↔ (read (text ls′) ≡ refused n l o)
+tested-as-weather ls ls′ other L h = weathers.refused-alike other L h
+
+-- Where the first is read, so is the second: it says the same but for the set, which is the Code's in the first and timber's in the second.
+pub set-alone : (ls ls′ : List (List ℕ)) → TimberLines ls ls′ → Lines ls → length (text ls) ≤ mostCharacters
+    → (r : Reading) → read (text ls) ≡ got r → (r .condition .weather .set ≡ code) × (read (text ls′) ≡ got (readingIn timber r))
+set-alone ls ls′ other L h = weathers.read-in-timber other L h
+
+-- That is so of each text that is read with a C1: the text's lines, and those that its reading has in the timber set, are such a pair.
+pub every-weather-timber : (s : List ℕ) (r : Reading) → read s ≡ got r → r .condition .weather .set ≡ code
+    → TimberLines (frames r) (frames (readingIn timber r)) × Lines (frames r) × (text (frames r) ≡ s) × (length s ≤ mostCharacters)
+every-weather-timber s r e c = weathers.timber-lines s r e c
 
 -- ---- what is refused
 -- A text of lines within 12,000 characters is refused with 2 at a line and an offset exactly where a block is met there whose length runs past its parent, or one or two bytes where a block would begin.

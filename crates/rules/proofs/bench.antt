@@ -6,3 +6,4 @@ pub mod Slips
 pub mod Drawing
 pub mod Regrouped
 pub mod CargoTank
+pub mod TimberDeck

@@ -1,5 +1,5 @@
 -- 'Bench sheet': P1 to P13, of the definitions, as one list and one theorem over it.
-use mathlib.Core.Path.{_≡_, refl}
+use mathlib.Core.Path.{refl}
 use mathlib.Core.List.{List, [], _∷_}
 use Prim.Native.String.{String}
 use Prim.Native.Nat.{ℕ}
@@ -30,16 +30,8 @@ with condition = lines (ship ∷ row1 ∷ row2 ∷ condition ∷ [])
 abbrev pub P1 : List ℕ
 P1 = with "A30018C1000C000009C40FA002BC01F400C8C2000600155CC00FA0"
 
--- P1 with C6 in C1's place.
-abbrev timber-P1 : List ℕ
-timber-P1 = with "A30018C6000C000009C40FA002BC01F400C8C2000600155CC00FA0"
-
 abbrev pub P1-output : List ℕ
 P1-output = broken ("D1006500000000000101010101010101" ∷ "0000000000155CC00000000000000FA000000000000001F4" ∷ "000000645737BC0000000042E46A1900000000A73BA1D500" ∷ "0000000059682F00000000000000012C000000000000002A" ∷ "00000000000000EF000000478E8D8F80" ∷ [])
-
--- The same figures; slots 1, 2 and 5 are unused.
-abbrev timber-output : List ℕ
-timber-output = broken ("D1006500000000000404010104010101" ∷ "0000000000155CC00000000000000FA000000000000001F4" ∷ "000000645737BC0000000042E46A1900000000A73BA1D500" ∷ "0000000059682F00000000000000012C000000000000002A" ∷ "00000000000000EF000000478E8D8F80" ∷ [])
 
 -- 'Of P1', as read from its text.
 abbrev of : (Loaded → List ℤ) → Ans Reading → List ℤ
@@ -70,8 +62,3 @@ bench =
 pub bench-holds : All bench
 unfolding answered reportOf read loaded leverZ lw1 lw2 period s phi1 start e rOf table
 bench-holds = (refl, (refl, (refl, (refl, (refl, (refl, (refl, (refl, (refl, ((refl, refl), ((refl, refl), ((refl, refl), ((refl, refl), tt)))))))))))))
-
--- Ticket 2's own case, beside the sheet.
-pub timber-holds : reportOf (answered timber-P1) ≡ timber-output
-unfolding answered reportOf
-timber-holds = refl

@@ -11,7 +11,7 @@ use Rattle.rules.specs.Blocks.{Row, code}
 use Rattle.rules.specs.Curve.{knAt, Loaded, loaded, sines, lever, leverZ, y, area}
 use Rattle.rules.specs.Criteria.{area1, area2, area3, greatestLever, angleOfGreatest, gm, lw1, lw2, units, phi0Figure}
 use Rattle.rules.specs.Roll.{b, C, q, period, X1, X2, K, S, keelIndex, farthest, outsideRange, notJudged}
-use Rattle.rules.specs.Report.{fail, pass, unjudged, void, verdictNumber, judgement, reportTag, reportLength}
+use Rattle.rules.specs.Report.{fail, pass, unjudged, void, unused, verdictNumber, judgement, reportTag, reportLength}
 use Rattle.rules.proofs.bench.Cases.{Case, gives, All}
 
 -- ---- the tables, in the page's own units: so many to one of the definitions'
@@ -30,8 +30,8 @@ pub sines-printed : (length sines ≡ 13) × (map (λ d. getD sines (d / 5) 0) (
     ≡ 0 ∷ 8_716 ∷ 17_365 ∷ 25_882 ∷ 34_202 ∷ 42_262 ∷ 50_000 ∷ 57_358 ∷ 64_279 ∷ 70_711 ∷ 76_604 ∷ 81_915 ∷ 86_603 ∷ [])
 sines-printed = (refl, refl)
 
--- LF and the digits as characters; '0 fail, 1 pass, 2 not judged, 3 refused'; the report's tag and its length in characters.
-pub report-printed : (LF ≡ 10) × (map digit (0 ∷ 9 ∷ 10 ∷ 15 ∷ []) ≡ 48 ∷ 57 ∷ 65 ∷ 70 ∷ []) × (map verdictNumber (fail ∷ pass ∷ unjudged ∷ void ∷ []) ≡ 0 ∷ 1 ∷ 2 ∷ 3 ∷ []) × (reportTag ≡ 0xD1) × (reportLength ≡ 209)
+-- LF and the digits as characters; '0 fail, 1 pass, 2 not judged, 3 refused', '4, unused'; the report's tag and its length in characters.
+pub report-printed : (LF ≡ 10) × (map digit (0 ∷ 9 ∷ 10 ∷ 15 ∷ []) ≡ 48 ∷ 57 ∷ 65 ∷ 70 ∷ []) × (map verdictNumber (fail ∷ pass ∷ unjudged ∷ void ∷ unused ∷ []) ≡ 0 ∷ 1 ∷ 2 ∷ 3 ∷ 4 ∷ []) × (reportTag ≡ 0xD1) × (reportLength ≡ 209)
 unfolding digit
 report-printed = (refl, refl, refl, refl, refl)
 

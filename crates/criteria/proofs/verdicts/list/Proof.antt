@@ -7,12 +7,13 @@ use borrow.Author.Needs.{needs}
 use Rattle.rules.specs.Curve.{Loaded}
 use Rattle.rules.specs.Criteria.{uses, passes1, passes2, passes3, passes4, passes5, passes6, passes7}
 use Rattle.rules.specs.Report.{slot, verdict, verdictNumber, verdict8}
+use Rattle.rules.proofs.criteria.EitherSet.{verdicts-are}
 use Rattle.book.specs.Book.{loadedOf}
 use Rattle.gust.specs.declared.Wind.{Wind}
 use Rattle.criteria.specs.declared.righting.Righting.{Righting}
 use Rattle.criteria.specs.declared.sets.Criteria.{Criteria}
 use Rattle.criteria.specs.declared.verdicts.Eighth.{Eighth}
-use Rattle.criteria.proofs.Judgement.{_::_, verdicts-are, lever-decides, eighth-is, slot-least, slot-says}
+use Rattle.criteria.proofs.Judgement.{_::_, lever-decides, eighth-is, slot-least, slot-says}
 use Rattle.criteria.proofs.verdicts.list.Statement.{statement}
 use Rattle.criteria.proofs.verdicts.list.Tie as tie
 
