@@ -39,7 +39,7 @@ impl Criteria {
 
     pub const HEEL: usize = 160;
 
-    // Timber's, where they differ: 0.08 m·rad; 0.25 m, from 0 on; 100 mm.
+    // Timber's: 0.08 m·rad; 0.25 m, from 0 on; 100 mm; 16°.
     pub const TIMBER_AREA3: i64 = 458_366_300_000;
 
     pub const TIMBER_LEVER: i64 = 1_250_000_000;
@@ -47,6 +47,8 @@ impl Criteria {
     pub const TIMBER_FROM: usize = 0;
 
     pub const TIMBER_GM: i64 = 100;
+
+    pub const TIMBER_HEEL: usize = 160;
 
     pub fn code() -> Self
         ensures { λ r. ⌜ r ≡ plainCriteria (limitsOf code) ⌝ }
@@ -76,7 +78,7 @@ impl Criteria {
             lever: Self::TIMBER_LEVER,
             angle: 0,
             gm: Self::TIMBER_GM,
-            heel: Self::HEEL,
+            heel: Self::TIMBER_HEEL,
             from: Self::TIMBER_FROM,
             deck: false,
             used: [false, false, true, true, false, true, true, true],
