@@ -153,7 +153,7 @@ weatherAt ln t body = do
   v ← fixed ln (weather s) true 3 body
   got (record { set = s; sky = v })
 
--- 5: 'a C1 alone'. Otherwise the entries, of which the first stands at offset `at`.
+-- 5: 'a C1 alone', or a C6. Otherwise the entries, of which the first stands at offset `at`.
 unfoldable pub loadAt : ℕ → ℕ → List ℕ → Ans Entries
 loadAt ln at s = do
   test (full s) 5 ln 0
