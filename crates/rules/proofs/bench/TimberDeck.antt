@@ -1,5 +1,5 @@
 -- Timber on deck: texts with a C1 and with a C6 in its place, P1's ship and rows. One passes in both sets, one by the Code alone, one as timber alone.
-use mathlib.Core.Path.{_≡_, refl}
+use mathlib.Core.Path.{refl}
 use mathlib.Core.List.{List, [], _∷_, _++_}
 use Prim.Native.String.{String}
 use Prim.Native.Nat.{ℕ}

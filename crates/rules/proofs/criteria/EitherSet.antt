@@ -1,12 +1,12 @@
 -- The same loaded ship in either set of criteria: what the set does not touch, which slots it leaves unused, and which passes by the Code are passes as timber.
 use mathlib.Core.Path.{_≡_, refl, ap, sym, _∙_}
-use mathlib.Core.Logic.{_↔_, _≢_, _⊎_, ⊎-elim}
+use mathlib.Core.Logic.{_↔_, _≢_}
 use mathlib.Core.Bool.{Bool, true, false, not, _&&_, _||_}
 use mathlib.Core.List.{List, [], _∷_, _++_}
 use Prim.Native.Nat.{ℕ, zero, suc, _-_, _*_, _≤_, _<_}
 use native.Mathlib.Omega.{arith}
 use lib.Dec.{leb}
-use lib.ListN.{length, getD, replicate, getD-replicate}
+use lib.ListN.{length, getD, getD-replicate}
 use lib.IntN.{ℤ, pos}
 use borrow.Author.Tests.{leb-true, le-leb}
 use Rattle.rules.specs.Blocks.{Set, code, timber}
@@ -17,7 +17,7 @@ use Rattle.rules.specs.Roll.{phi1, net, notJudged, noGust, passes8}
 use Rattle.rules.specs.Report.{Verdict, fail, pass, unjudged, void, unused, slot, verdict, verdict8, where8, judgement}
 use Rattle.rules.specs.Timber.{loadedIn, UnusedSlot, slot1, slot2, slot5, EasedSlot, slot3, slot6, slot7, slotOf}
 use Rattle.rules.proofs.layout.Fields.{both-true}
-use Rattle.rules.proofs.rounding.Signed.{Le, at-least, le-true}
+use Rattle.rules.proofs.rounding.Signed.{at-least, le-true}
 
 -- ---- the figures
 -- Two lists that differ in one place alone.

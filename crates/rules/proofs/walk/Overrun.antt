@@ -6,14 +6,13 @@ use Prim.Native.Nat.{ℕ, _+_, _-_, _≤_, _<_}
 use native.Mathlib.Omega.{arith}
 use lib.ListN.{length, length-append}
 use Rattle.rules.specs.Text.{text, Lines}
-use Rattle.rules.specs.Blocks.{block, spellValues, ok, spellBlock, Ship, Row, conditionTag, Weather, weather, okWeather, spellWeather, entry, groupTag}
+use Rattle.rules.specs.Blocks.{block, spellValues, spellBlock, Ship, Row, conditionTag, Weather, weather, okWeather, spellWeather, entry, groupTag}
 use Rattle.rules.specs.Layout.{Entries, end, leaf, group, spell, spellCondition, leaves, depth, Good, Rising, fewestRows, mostRows, mostDepth, mostEntries, mostBytes, mostCharacters}
 use Rattle.rules.specs.Outcome.{refused}
-use Rattle.rules.specs.Walk.{step, entries, weatherAt, loadAt, inside, closed, after, tail, readFrames, read}
+use Rattle.rules.specs.Walk.{step, entries, loadAt, inside, closed, after, tail, readFrames, read}
 use Rattle.rules.specs.Met.{Passed, Meets, behind, nestedIn, Led, behindRows, lead, Met, shipsFrame, frame, frameBehind, weatherBlock, entryBlock, Overruns}
 use Rattle.rules.proofs.walk.Outcome.{bind-got, bind-refused, test-got}
-use Rattle.rules.proofs.layout.Fields.{weather-lawful}
-use Rattle.rules.proofs.walk.Heads.{length-block, full-block, header-got, fixed-got}
+use Rattle.rules.proofs.walk.Heads.{length-block, full-block, header-got}
 use Rattle.rules.proofs.walk.Fuel.{entries-block}
 use Rattle.rules.proofs.walk.Entries.{length-leaf, length-group, full-spell, entry-passes, group-passes, entries-got}
 use Rattle.rules.proofs.walk.Conditions.{weatherBody, weather-got, inside-got}

@@ -8,16 +8,16 @@ use native.Mathlib.Omega.{arith}
 use lib.ListN.{length}
 use Rattle.rules.specs.Text.{text, Lines}
 use Rattle.rules.specs.Blocks.{ok, Set, code, timber, Sky, Weather, weather}
-use Rattle.rules.specs.Layout.{Entries, Condition, Reading, frames, spellText, mostCharacters}
+use Rattle.rules.specs.Layout.{Condition, Reading, frames, spellText, mostCharacters}
 use Rattle.rules.specs.Outcome.{refused, got, _>>=_}
 use Rattle.rules.specs.Walk.{fixed, tagOf, blockAt, entries, chosen, weatherAt, loadAt, inside, frameOf, read}
 use Rattle.rules.specs.Timber.{TimberLines, conditionIn, readingIn}
 use Rattle.rules.proofs.layout.Lines.{lines-sound}
 use Rattle.rules.proofs.layout.Retagged.{frames-timber}
-use Rattle.rules.proofs.walk.Alike.{Like, bothRefused, bothGot, like-bind, like-then, Never, like-never, like-refused, like-got}
+use Rattle.rules.proofs.walk.Alike.{Like, bothRefused, bothGot, like-bind, like-then, Never, like-refused, like-got}
 use Rattle.rules.proofs.walk.Fuel.{entries-some}
 use Rattle.rules.proofs.walk.WholeText.{sound, lines-of-reading}
-use Rattle.rules.proofs.walk.OtherTag.{withTag, head-alike, TestedAlike, inside-head, read-alike}
+use Rattle.rules.proofs.walk.OtherTag.{head-alike, TestedAlike, inside-head, read-alike}
 
 -- The one condition in the Code's set, and the other the same in timber's.
 abbrev InTimber : Condition → Condition → Type 0
