@@ -14,10 +14,10 @@ use Rattle.rules.specs.Outcome.{refused, got}
 use Rattle.rules.specs.Walk.{read}
 use Rattle.rules.specs.Loading.{weighed}
 use Rattle.rules.specs.Curve.{loaded}
-use Rattle.rules.specs.Columns.{figureIn, verdictIn}
+use Rattle.rules.specs.Columns.{figureIn, slotOf, verdictIn}
 use Rattle.rules.specs.Report.{Verdict, pass, void, unused, verdictNumber, Judgement, judgement, reportLength}
 use Rattle.rules.specs.Answer.{answered, number, written}
-use Rattle.rules.specs.Timber.{readingIn, loadedIn, UnusedSlot, EasedSlot, slot3, slot6, slot7, slotOf}
+use Rattle.rules.specs.Timber.{readingBy, loadedBy, UnusedSlot, EasedSlot, slot3, slot6, slot7}
 use Rattle.rules.proofs.answer.Steps.{answered-refused}
 use Rattle.rules.proofs.answer.Columns.{verdict-written}
 use Rattle.rules.proofs.criteria.EitherSet.{unused-iff, figures-but-four, eighth-slot, code-as-timber}
@@ -28,11 +28,11 @@ set-of : (r : Reading) → loaded r .weather .set ≡ r .condition .weather .set
 unfolding loaded
 set-of r = refl
 
-loaded-in : (s : Set) (r : Reading) → loaded (readingIn s r) ≡ loadedIn s (loaded r)
+loaded-in : (s : Set) (r : Reading) → loaded (readingBy s r) ≡ loadedBy s (loaded r)
 unfolding loaded
 loaded-in s r = refl
 
-weighed-in : (s : Set) (r : Reading) → weighed (readingIn s r) ≡ weighed r
+weighed-in : (s : Set) (r : Reading) → weighed (readingBy s r) ≡ weighed r
 unfolding weighed
 weighed-in s r = refl
 
@@ -71,7 +71,7 @@ module _ (t before : List ℕ) (n : ℕ) (after : List ℕ) (N : n ≡ number t 
 module _ (t t′ before before′ : List ℕ) (n n′ : ℕ) (after after′ : List ℕ) (N : n ≡ number t before) (W : after ≡ written t before) (N′ : n′ ≡ number t′ before′) (W′ : after′ ≡ written t′ before′)
     (room : reportLength ≤ length before) (room′ : reportLength ≤ length before′)
     (refused-alike : (m l o : ℕ) → read t ≡ refused m l o → read t′ ≡ refused m l o)
-    (in-timber : (r : Reading) → read t ≡ got r → (r .condition .weather .set ≡ code) × (read t′ ≡ got (readingIn timber r))) where
+    (in-timber : (r : Reading) → read t ≡ got r → (r .condition .weather .set ≡ code) × (read t′ ≡ got (readingBy timber r))) where
   pub same-number : (n ≡ n′) × (1 ≤ n → take reportLength after ≡ take reportLength after′)
   same-number =
       replies.by-reading t
@@ -82,30 +82,30 @@ module _ (t t′ before before′ : List ℕ) (n n′ : ℕ) (after after′ : L
       (λ r e. let e′ = in-timber r e .1 in
       replies.weighed-cases r (λ _ w. unweighed r e e′ 7 w) (λ _ w. unweighed r e e′ 8 w) (λ _ w.
       let p = replies.judgement-sent t before n after N W room r e w .0 in
-      let q = replies.judgement-sent t′ before′ n′ after′ N′ W′ room′ (readingIn timber r) e′ (weighed-in timber r ∙ w) .0 in
+      let q = replies.judgement-sent t′ before′ n′ after′ N′ W′ room′ (readingBy timber r) e′ (weighed-in timber r ∙ w) .0 in
       (p ∙ sym q, λ some. absurd (omega arith))))
     where
-      unweighed : (r : Reading) → read t ≡ got r → read t′ ≡ got (readingIn timber r) → (m : ℕ) → weighed r ≡ refused m 0 0 → (n ≡ n′) × (1 ≤ n → take reportLength after ≡ take reportLength after′)
+      unweighed : (r : Reading) → read t ≡ got r → read t′ ≡ got (readingBy timber r) → (m : ℕ) → weighed r ≡ refused m 0 0 → (n ≡ n′) × (1 ≤ n → take reportLength after ≡ take reportLength after′)
       unweighed r e e′ m w =
           let p = replies.weighing-sent t before n after N W room r e m w in
-          let q = replies.weighing-sent t′ before′ n′ after′ N′ W′ room′ (readingIn timber r) e′ m (weighed-in timber r ∙ w) in
+          let q = replies.weighing-sent t′ before′ n′ after′ N′ W′ room′ (readingBy timber r) e′ m (weighed-in timber r ∙ w) in
           (p .0 ∙ sym (q .0), λ _. p .1 ∙ sym (q .1))
 
   module _ (a : Allowed t) (w : weighed (a .0) ≡ got tt) where
-    timbered : (a .0 .condition .weather .set ≡ code) × (read t′ ≡ got (readingIn timber (a .0)))
+    timbered : (a .0 .condition .weather .set ≡ code) × (read t′ ≡ got (readingBy timber (a .0)))
     timbered = in-timber (a .0) (replies.read-of t a)
 
     abbrev allowed′ : Allowed t′
-    allowed′ = replies.allowed t′ (readingIn timber (a .0)) (timbered .1)
+    allowed′ = replies.allowed t′ (readingBy timber (a .0)) (timbered .1)
 
-    weighed′ : weighed (readingIn timber (a .0)) ≡ got tt
+    weighed′ : weighed (readingBy timber (a .0)) ≡ got tt
     weighed′ = weighed-in timber (a .0) ∙ w
 
     -- Both are judged on one ship, in either set.
-    by-code : loaded (a .0) ≡ loadedIn code (loaded (a .0))
-    by-code = λ i. loadedIn ((set-of (a .0) ∙ timbered .0) i) (loaded (a .0))
+    by-code : loaded (a .0) ≡ loadedBy code (loaded (a .0))
+    by-code = λ i. loadedBy ((set-of (a .0) ∙ timbered .0) i) (loaded (a .0))
 
-    either : {A : Type 0} (f : Judgement → A) → (f (judgement (loadedIn code (loaded (a .0)))) ≡ f (judgement (loadedIn timber (loaded (a .0))))) → f (judgement (loaded (a .0))) ≡ f (judgement (loaded (readingIn timber (a .0))))
+    either : {A : Type 0} (f : Judgement → A) → (f (judgement (loadedBy code (loaded (a .0)))) ≡ f (judgement (loadedBy timber (loaded (a .0))))) → f (judgement (loaded (a .0))) ≡ f (judgement (loaded (readingBy timber (a .0))))
     either f e = ap (λ c. f (judgement c)) by-code ∙ e ∙ sym (ap (λ c. f (judgement c)) (loaded-in timber (a .0)))
 
     figure-either : (i : ℕ) → i < 11 → i ≢ 6 → figureIn i after ≡ figureIn i after′
@@ -119,8 +119,8 @@ module _ (t t′ before before′ : List ℕ) (n n′ : ℕ) (after after′ : L
       slot-here : verdictIn (suc i) after ≡ hex (verdictNumber (slotOf (suc i) (judgement (loaded (a .0)))) ∷ [])
       slot-here = replies.verdict-judged t before n after N W room (a .0) (replies.read-of t a) w i k
 
-      slot-there : verdictIn (suc i) after′ ≡ hex (verdictNumber (slotOf (suc i) (judgement (loaded (readingIn timber (a .0))))) ∷ [])
-      slot-there = replies.verdict-judged t′ before′ n′ after′ N′ W′ room′ (readingIn timber (a .0)) (timbered .1) weighed′ i k
+      slot-there : verdictIn (suc i) after′ ≡ hex (verdictNumber (slotOf (suc i) (judgement (loaded (readingBy timber (a .0))))) ∷ [])
+      slot-there = replies.verdict-judged t′ before′ n′ after′ N′ W′ room′ (readingBy timber (a .0)) (timbered .1) weighed′ i k
 
       eased : EasedSlot (suc i) → verdictIn (suc i) after ≡ hex (1 ∷ []) → verdictIn (suc i) after′ ≡ hex (1 ∷ [])
       eased e q =

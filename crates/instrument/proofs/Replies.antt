@@ -20,8 +20,7 @@ use Rattle.rules.specs.Outcome.{Ans, refused, got, test}
 use Rattle.rules.specs.Walk.{read}
 use Rattle.rules.specs.Leaves.{sumLeaves, SameSums, loadedWith}
 use Rattle.rules.specs.Cargo.{MadeCargo}
-use Rattle.rules.specs.Timber.{slotOf}
-use Rattle.rules.specs.Columns.{figureIn, verdictIn}
+use Rattle.rules.specs.Columns.{figureIn, slotOf, verdictIn}
 use Rattle.rules.specs.Places.{Placed}
 use Rattle.rules.specs.Loading.{mass, moment, nominallyFull, freeSurface, weighed, inTable, displacement, correctedKG, firstMass, lastMass, greatestKG, entriesOf}
 use Rattle.rules.specs.Curve.{Loaded, loaded}

@@ -14,7 +14,7 @@ use Rattle.rules.specs.Walk.{linesFrom, read}
 use Rattle.rules.specs.Loading.{flat, mass, moment, freeSurfaceOf, freeSurface, displacement, correctedKG, entriesOf}
 use Rattle.rules.specs.Leaves.{sumLeaves, ungrouped, loadedWith}
 use Rattle.rules.specs.Cargo.{MadeCargo, RetaggedLines}
-use Rattle.rules.specs.Timber.{TimberLines, readingIn}
+use Rattle.rules.specs.Timber.{TimberLines, readingBy}
 use Rattle.rules.specs.Places.{LinesFill, SameBefore, lookedAt, LineAt, Placed}
 use Rattle.rules.specs.Met.{Met, Overruns, NoLF, NoLine, FirstNoLine}
 use Rattle.rules.specs.Answer.{judged, answered}
@@ -115,12 +115,12 @@ tested-as-weather ls ls′ other L h = weathers.refused-alike other L h
 
 -- Where the first is read, so is the second: it says the same but for the set, which is the Code's in the first and timber's in the second.
 pub set-alone : (ls ls′ : List (List ℕ)) → TimberLines ls ls′ → Lines ls → length (text ls) ≤ mostCharacters
-    → (r : Reading) → read (text ls) ≡ got r → (r .condition .weather .set ≡ code) × (read (text ls′) ≡ got (readingIn timber r))
+    → (r : Reading) → read (text ls) ≡ got r → (r .condition .weather .set ≡ code) × (read (text ls′) ≡ got (readingBy timber r))
 set-alone ls ls′ other L h = weathers.read-in-timber other L h
 
 -- That is so of each text that is read with a C1: the text's lines, and those that its reading has in the timber set, are such a pair.
 pub every-weather-timber : (s : List ℕ) (r : Reading) → read s ≡ got r → r .condition .weather .set ≡ code
-    → TimberLines (frames r) (frames (readingIn timber r)) × Lines (frames r) × (text (frames r) ≡ s) × (length s ≤ mostCharacters)
+    → TimberLines (frames r) (frames (readingBy timber r)) × Lines (frames r) × (text (frames r) ≡ s) × (length s ≤ mostCharacters)
 every-weather-timber s r e c = weathers.timber-lines s r e c
 
 -- ---- what is refused

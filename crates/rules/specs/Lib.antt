@@ -16,7 +16,7 @@ pub mod Curve
 pub mod Criteria
 pub mod Roll
 pub mod Report
-pub mod Timber
 pub mod Columns
+pub mod Timber
 pub mod Answer
 pub mod Ranges

@@ -1,11 +1,9 @@
 -- Request 2: what it is for a C6 to stand in C1's place, in the lines of a text, in a reading and in what is judged. These are words for promises; `judge` rests on none of them.
 use mathlib.Core.List.{List}
-use Prim.Native.Nat.{ℕ, _-_}
-use lib.ListN.{getD}
+use Prim.Native.Nat.{ℕ}
 use Rattle.rules.specs.Blocks.{Set}
 use Rattle.rules.specs.Layout.{Condition, Reading}
 use Rattle.rules.specs.Curve.{Loaded}
-use Rattle.rules.specs.Report.{Verdict, void, Judgement}
 use Rattle.rules.specs.Tags.{OtherTagLines}
 
 -- Lines with the tag C1 of one block made C6.
@@ -13,14 +11,14 @@ abbrev pub TimberLines : List (List ℕ) → List (List ℕ) → Type 0
 TimberLines ls ls′ = OtherTagLines 0xC1 0xC6 ls ls′
 
 -- The same in another set: a condition, a reading, a loaded ship.
-abbrev pub conditionIn : Set → Condition → Condition
-conditionIn s c = record { weather = record { set = s; sky = c .weather .sky }; load = c .load }
+abbrev pub conditionBy : Set → Condition → Condition
+conditionBy s c = record { weather = record { set = s; sky = c .weather .sky }; load = c .load }
 
-abbrev pub readingIn : Set → Reading → Reading
-readingIn s r = record { ship = r .ship; rows = r .rows; condition = conditionIn s (r .condition) }
+abbrev pub readingBy : Set → Reading → Reading
+readingBy s r = record { ship = r .ship; rows = r .rows; condition = conditionBy s (r .condition) }
 
-abbrev pub loadedIn : Set → Loaded → Loaded
-loadedIn s c = record { ship = c .ship; weather = record { set = s; sky = c .weather .sky }; w = c .w; kg = c .kg; draught = c .draught; km = c .km; kn = c .kn }
+abbrev pub loadedBy : Set → Loaded → Loaded
+loadedBy s c = record { ship = c .ship; weather = record { set = s; sky = c .weather .sky }; w = c .w; kg = c .kg; draught = c .draught; km = c .km; kn = c .kn }
 
 -- 'Slots 1, 2 and 5.'
 pub data UnusedSlot : ℕ → Type 0 where
@@ -33,7 +31,3 @@ pub data EasedSlot : ℕ → Type 0 where
   slot3 : EasedSlot 3
   slot6 : EasedSlot 6
   slot7 : EasedSlot 7
-
--- What slot k of a judgement reads, 1 to 8.
-abbrev pub slotOf : ℕ → Judgement → Verdict
-slotOf k j = getD (j .verdicts) (k - 1) void

@@ -12,9 +12,8 @@ use Rattle.rules.specs.Numbers.{digits, twos, Bytes}
 use Rattle.rules.specs.Text.{LF, hex}
 use Rattle.rules.specs.Blocks.{block}
 use Rattle.rules.specs.Report.{Verdict, fail, pass, unjudged, void, unused, verdictNumber, Judgement, concat, reportTag, reportBody, reportLine}
-use Rattle.rules.specs.Timber.{slotOf}
 use Rattle.rules.specs.Walk.{unhex}
-use Rattle.rules.specs.Columns.{characters, figureIn, verdictIn}
+use Rattle.rules.specs.Columns.{characters, figureIn, slotOf, verdictIn}
 use Rattle.rules.proofs.layout.Lines.{length-hex, unhex-got}
 use Rattle.rules.proofs.layout.Numbers.{length-digits}
 use Rattle.rules.proofs.answer.Length.{frame-length}

@@ -15,7 +15,8 @@ use Rattle.rules.specs.Criteria.{limitsOf, set, uses, area1, area2, area
 use Rattle.rules.specs.Roll as roll
 use Rattle.rules.specs.Roll.{phi1, net, notJudged, noGust, passes8}
 use Rattle.rules.specs.Report.{Verdict, fail, pass, unjudged, void, unused, slot, verdict, verdict8, where8, judgement}
-use Rattle.rules.specs.Timber.{loadedIn, UnusedSlot, slot1, slot2, slot5, EasedSlot, slot3, slot6, slot7, slotOf}
+use Rattle.rules.specs.Timber.{loadedBy, UnusedSlot, slot1, slot2, slot5, EasedSlot, slot3, slot6, slot7}
+use Rattle.rules.specs.Columns.{slotOf}
 use Rattle.rules.proofs.layout.Fields.{both-true}
 use Rattle.rules.proofs.rounding.Signed.{at-least, le-true}
 
@@ -34,24 +35,24 @@ module _ (c : Loaded) where
   abbrev after4 : List ℤ
   after4 = pos (angleOfGreatest c) ∷ phi0Figure c ∷ where8 c (pos (phi1 c)) ∷ where8 c (net c) ∷ []
 
-  figures-in : (s : Set) → judgement (loadedIn s c) .figures ≡ before4 ++ (greatestLever (loadedIn s c) ∷ after4)
+  figures-in : (s : Set) → judgement (loadedBy s c) .figures ≡ before4 ++ (greatestLever (loadedBy s c) ∷ after4)
   unfolding judgement
   figures-in s = refl
 
   -- No figure but slot 4's looks at the set, nor does verdict 8.
-  pub figures-but-four : (s s′ : Set) (i : ℕ) → i ≢ 6 → getD (judgement (loadedIn s c) .figures) i (pos 0) ≡ getD (judgement (loadedIn s′ c) .figures) i (pos 0)
+  pub figures-but-four : (s s′ : Set) (i : ℕ) → i ≢ 6 → getD (judgement (loadedBy s c) .figures) i (pos 0) ≡ getD (judgement (loadedBy s′ c) .figures) i (pos 0)
   figures-but-four s s′ i h =
-      ap (λ l. getD l i (pos 0)) (figures-in s) ∙ but-one before4 after4 (greatestLever (loadedIn s c)) (greatestLever (loadedIn s′ c)) (pos 0) i h ∙ sym (ap (λ l. getD l i (pos 0)) (figures-in s′))
+      ap (λ l. getD l i (pos 0)) (figures-in s) ∙ but-one before4 after4 (greatestLever (loadedBy s c)) (greatestLever (loadedBy s′ c)) (pos 0) i h ∙ sym (ap (λ l. getD l i (pos 0)) (figures-in s′))
 
-  not-judged-in : (s : Set) → notJudged (loadedIn s c) ≡ notJudged c
+  not-judged-in : (s : Set) → notJudged (loadedBy s c) ≡ notJudged c
   unfolding notJudged roll.outsideRange roll.period roll.q roll.C roll.b
   not-judged-in s = refl
 
-  gust-in : (s : Set) → (noGust (loadedIn s c) ≡ noGust c) × (passes8 (loadedIn s c) ≡ passes8 c)
+  gust-in : (s : Set) → (noGust (loadedBy s c) ≡ noGust c) × (passes8 (loadedBy s c) ≡ passes8 c)
   unfolding noGust passes8 net phi0 phi1 lw1 lw2 roll.start roll.u roll.e roll.p roll.k roll.x1 roll.x2 roll.s roll.b roll.period roll.q roll.C
   gust-in s = (refl, refl)
 
-  eighth-in : (s : Set) → verdict8 (loadedIn s c) ≡ verdict8 c
+  eighth-in : (s : Set) → verdict8 (loadedBy s c) ≡ verdict8 c
   unfolding verdict8
   eighth-in s = λ i. elim (not-judged-in s i) [ true ↦ unjudged | false ↦ elim (gust-in s .0 i) [ true ↦ fail | false ↦ verdict (gust-in s .1 i) ] ]
 
@@ -63,9 +64,9 @@ unfolding judgement
 verdicts-are c = refl
 
 -- 8 reads the same in every set.
-pub eighth-slot : (c : Loaded) (s : Set) → slotOf 8 (judgement (loadedIn s c)) ≡ verdict8 c
-eighth-slot c code = rw (verdicts-are (loadedIn code c)) (eighth-in c code)
-eighth-slot c timber = rw (verdicts-are (loadedIn timber c)) (eighth-in c timber)
+pub eighth-slot : (c : Loaded) (s : Set) → slotOf 8 (judgement (loadedBy s c)) ≡ verdict8 c
+eighth-slot c code = rw (verdicts-are (loadedBy code c)) (eighth-in c code)
+eighth-slot c timber = rw (verdicts-are (loadedBy timber c)) (eighth-in c timber)
 
 -- A slot that reads pass is used, and passes; one that reads 4 is not used, and what is judged never reads so.
 pub slot-pass : (used passes : Bool) → slot used (verdict passes) ≡ pass → (used ≡ true) × (passes ≡ true)
@@ -129,15 +130,15 @@ unused-iff c i h = (λ r. left-out (c .weather .set) i h (read-unused c i h r), 
 -- ---- passes by the Code
 -- Where one set asks no more than another of 3, of 6 or of 7, a pass by the other is a pass by it. Over any two sets.
 module _ (s s′ : Set) (c : Loaded) where
-  pub eased3 : limitsOf s′ .area3 ≤ limitsOf s .area3 → passes3 (loadedIn s c) ≡ true → passes3 (loadedIn s′ c) ≡ true
+  pub eased3 : limitsOf s′ .area3 ≤ limitsOf s .area3 → passes3 (loadedBy s c) ≡ true → passes3 (loadedBy s′ c) ≡ true
   unfolding passes3 area3
   eased3 h p = le-true (pos (limitsOf s′ .area3)) (area3 c) (omega (arith, at-least (pos (limitsOf s .area3)) (area3 c) p))
 
-  pub eased6 : limitsOf s′ .gm ≤ limitsOf s .gm → passes6 (loadedIn s c) ≡ true → passes6 (loadedIn s′ c) ≡ true
+  pub eased6 : limitsOf s′ .gm ≤ limitsOf s .gm → passes6 (loadedBy s c) ≡ true → passes6 (loadedBy s′ c) ≡ true
   unfolding passes6
   eased6 h p = le-true (pos (limitsOf s′ .gm)) (gm c) (omega (arith, at-least (pos (limitsOf s .gm)) (gm c) p))
 
-  pub eased7 : limitsOf s .heel ≤ limitsOf s′ .heel → (limitsOf s′ .deck ≡ true → limitsOf s .deck ≡ true) → passes7 (loadedIn s c) ≡ true → passes7 (loadedIn s′ c) ≡ true
+  pub eased7 : limitsOf s .heel ≤ limitsOf s′ .heel → (limitsOf s′ .deck ≡ true → limitsOf s .deck ≡ true) → passes7 (loadedBy s c) ≡ true → passes7 (loadedBy s′ c) ≡ true
   unfolding passes7 phi0 lw1
   eased7 h d p =
       let edge = leb (10 * phi0 c) (8 * c .weather .sky .deckEdge) in
@@ -151,7 +152,7 @@ module _ (s s′ : Set) (c : Loaded) where
       dry false true b d e = absurd (let f = d refl in let z : _≡_ {A = ℕ} 0 1 = cc in omega arith)
 
 -- So with timber on deck.
-pub code-as-timber : (c : Loaded) (k : ℕ) → EasedSlot k → slotOf k (judgement (loadedIn code c)) ≡ pass → slotOf k (judgement (loadedIn timber c)) ≡ pass
-code-as-timber c k slot3 r = rw (verdicts-are (loadedIn timber c)) (ap verdict (eased3 code timber c (omega arith) (slot-pass true _ (rw (verdicts-are (loadedIn code c)) at r) .1)))
-code-as-timber c k slot6 r = rw (verdicts-are (loadedIn timber c)) (ap verdict (eased6 code timber c (omega arith) (slot-pass true _ (rw (verdicts-are (loadedIn code c)) at r) .1)))
-code-as-timber c k slot7 r = rw (verdicts-are (loadedIn timber c)) (ap verdict (eased7 code timber c (omega arith) (λ d. refl) (slot-pass true _ (rw (verdicts-are (loadedIn code c)) at r) .1)))
+pub code-as-timber : (c : Loaded) (k : ℕ) → EasedSlot k → slotOf k (judgement (loadedBy code c)) ≡ pass → slotOf k (judgement (loadedBy timber c)) ≡ pass
+code-as-timber c k slot3 r = rw (verdicts-are (loadedBy timber c)) (ap verdict (eased3 code timber c (omega arith) (slot-pass true _ (rw (verdicts-are (loadedBy code c)) at r) .1)))
+code-as-timber c k slot6 r = rw (verdicts-are (loadedBy timber c)) (ap verdict (eased6 code timber c (omega arith) (slot-pass true _ (rw (verdicts-are (loadedBy code c)) at r) .1)))
+code-as-timber c k slot7 r = rw (verdicts-are (loadedBy timber c)) (ap verdict (eased7 code timber c (omega arith) (λ d. refl) (slot-pass true _ (rw (verdicts-are (loadedBy code c)) at r) .1)))

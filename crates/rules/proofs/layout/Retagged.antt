@@ -7,7 +7,7 @@ use Rattle.rules.specs.Layout.{Entries, spell, spellCondition, rowFrames
 use Rattle.rules.specs.Leaves.{loadedWith}
 use Rattle.rules.specs.Tags.{OtherTag, tagHere, afterBlock, insideGroup, inCondition, afterLine}
 use Rattle.rules.specs.Cargo.{MadeCargo, here, afterEntry, afterGroup, inGroup, RetaggedLines}
-use Rattle.rules.specs.Timber.{TimberLines, readingIn}
+use Rattle.rules.specs.Timber.{TimberLines, readingBy}
 use Rattle.rules.proofs.walk.Conditions.{weatherBody}
 
 pub spell-retagged : {t : Tank} {F G : Entries} → MadeCargo t F G → OtherTag 0xC3 0xC5 (spell F) (spell G)
@@ -32,6 +32,6 @@ unfolding rowFrames spellCondition spellBlock block
 rows-timber [] s F = let body = weatherBody (record { set = code; sky = s }) in inCondition [] (tagHere ((digits 2 (length body) ++ body) ++ spell F))
 rows-timber (v ∷ vs) s F = afterLine (spellBlock row v) (rows-timber vs s F)
 
-pub frames-timber : (r : Reading) → TimberLines (frames (readingIn code r)) (frames (readingIn timber r))
+pub frames-timber : (r : Reading) → TimberLines (frames (readingBy code r)) (frames (readingBy timber r))
 unfolding frames
 frames-timber r = afterLine (spellBlock ship (r .ship)) (rows-timber (r .rows) (r .condition .weather .sky) (r .condition .load))

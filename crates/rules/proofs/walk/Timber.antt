@@ -11,7 +11,7 @@ use Rattle.rules.specs.Blocks.{ok, Set, code, timber, Sky, Weather, weat
 use Rattle.rules.specs.Layout.{Condition, Reading, frames, spellText, mostCharacters}
 use Rattle.rules.specs.Outcome.{refused, got, _>>=_}
 use Rattle.rules.specs.Walk.{fixed, tagOf, blockAt, entries, chosen, weatherAt, loadAt, inside, frameOf, read}
-use Rattle.rules.specs.Timber.{TimberLines, conditionIn, readingIn}
+use Rattle.rules.specs.Timber.{TimberLines, conditionBy, readingBy}
 use Rattle.rules.proofs.layout.Lines.{lines-sound}
 use Rattle.rules.proofs.layout.Retagged.{frames-timber}
 use Rattle.rules.proofs.walk.Alike.{Like, bothRefused, bothGot, like-bind, like-then, Never, like-refused, like-got}
@@ -21,7 +21,7 @@ use Rattle.rules.proofs.walk.OtherTag.{head-alike, TestedAlike, inside-
 
 -- The one condition in the Code's set, and the other the same in timber's.
 abbrev InTimber : Condition → Condition → Type 0
-InTimber c d = (c .weather .set ≡ code) × (d ≡ conditionIn timber c)
+InTimber c d = (c .weather .set ≡ code) × (d ≡ conditionBy timber c)
 
 -- 4, 3 and 6 of the weather, whichever the set.
 weather-steps : (ln : ℕ) (body : List ℕ) (s : Set) → weatherAt ln (weather s .tag) body ≡ (fixed ln (weather code) true 3 body >>= λ v. got (record { set = s; sky = v }))
@@ -68,18 +68,18 @@ module _ {ls ls′ : List (List ℕ)} (m : TimberLines ls ls′) (B : Lines ls) 
   pub refused-alike : (n k o : ℕ) → (read (text ls) ≡ refused n k o) ↔ (read (text ls′) ≡ refused n k o)
   refused-alike = like-refused (read-alike weathers-alike m B l)
 
-  pub read-in-timber : (r : Reading) → read (text ls) ≡ got r → (r .condition .weather .set ≡ code) × (read (text ls′) ≡ got (readingIn timber r))
+  pub read-in-timber : (r : Reading) → read (text ls) ≡ got r → (r .condition .weather .set ≡ code) × (read (text ls′) ≡ got (readingBy timber r))
   read-in-timber r e =
       let q = like-got (read-alike weathers-alike m B l) r e in
       let h = q .1 in
       (h .2 .0, q .2 ∙ ap got (same (q .0) h))
     where
-      same : (s : Reading) → (r .ship ≡ s .ship) × (r .rows ≡ s .rows) × InTimber (r .condition) (s .condition) → s ≡ readingIn timber r
+      same : (s : Reading) → (r .ship ≡ s .ship) × (r .rows ≡ s .rows) × InTimber (r .condition) (s .condition) → s ≡ readingBy timber r
       same s h = rw (h .0, h .1, ← h .2 .1)
 
 -- ---- the weather of a text that is read
 pub timber-lines : (s : List ℕ) (r : Reading) → read s ≡ got r → r .condition .weather .set ≡ code
-    → TimberLines (frames r) (frames (readingIn timber r)) × Lines (frames r) × (text (frames r) ≡ s) × (length s ≤ mostCharacters)
+    → TimberLines (frames r) (frames (readingBy timber r)) × Lines (frames r) × (text (frames r) ≡ s) × (length s ≤ mostCharacters)
 unfolding spellText
 timber-lines s r e c =
     let L = lines-sound 1 s (frames r) (lines-of-reading s r e) in
