@@ -1,7 +1,7 @@
 // The figures of criteria 1 to 6.
 ghost use mathlib.Core.Path.{_≡_};
 ghost use Prim.Native.Nat.{min as minOf};
-ghost use Rattle.rules.specs.Criteria.{set, greatestLever, gm as gmOf};
+ghost use Rattle.rules.specs.Criteria.{set, greatestLever, angleOfGreatest, gm as gmOf};
 ghost use Rattle.rules.specs.Ranges.{Fair};
 ghost use Rattle.book.specs.Book.{loadedOf};
 ghost use Rattle.gust.specs.Gusts.{Curve, Areas};
@@ -24,12 +24,15 @@ fn min(a: usize, b: usize) -> usize
     if a < b { a } else { b }
 }
 
-// 4, from where the set looks: a curve that ends before has the figure 0.
-fn greatest_lever(c: Loaded, from: usize, y: &[i64; 601]) -> i64
-    requires { ⌜ Fair (loadedOf c) × (from ≡ set (loadedOf c) .from) × Curve (loadedOf c) (now y) ⌝ }
+// 4, from where the set looks: the lever at 5's angle if it is not before; a curve that ends before has the figure 0.
+fn greatest_lever(c: Loaded, from: usize, angle: usize, y: &[i64; 601]) -> i64
+    requires { ⌜ Fair (loadedOf c) × (from ≡ set (loadedOf c) .from) × (angle ≡ angleOfGreatest (loadedOf c)) × Curve (loadedOf c) (now y) ⌝ }
     ensures { λ r. ⌜ r ≡ greatestLever (loadedOf c) ⌝ }
 {
     let flooding = c.weather.flooding as usize;
+    if from <= angle {
+        return y[angle];
+    }
     if flooding < from {
         return 0;
     }
@@ -56,8 +59,8 @@ pub fn measure(c: Loaded, from: usize, y: &[i64; 601], area: &[i64; 601]) -> Rig
     let area1 = area[to30];
     let area3 = area[to40];
     let area2 = area3 - area1;
-    let lever = greatest_lever(c, from, y);
     let angle = curve::searches::peak(y, 0, flooding);
+    let lever = greatest_lever(c, from, angle, y);
     let gm = gm(c);
     Righting {
         area1,

@@ -33,13 +33,17 @@ pub greatest-none : (c : Loaded) → E c < set c .from → greatestLever c ≡ p
 unfolding greatestLever
 greatest-none c h = ap (λ (b : Bool). elim b [ true ↦ pos 0 | false ↦ y c (pos (peak (λ t. y c (pos t)) (set c .from) (E c - set c .from))) ]) (lt-ltb (E c) (set c .from) h)
 
--- With timber on deck the greatest lever is that of criterion 5's angle.
+-- Where the angle of the greatest lever is not before that, it is the lever there; so always with timber on deck.
+pub lever-at-angle : (c : Loaded) → set c .from ≤ angleOfGreatest c → greatestLever c ≡ y c (pos (angleOfGreatest c))
+lever-at-angle c h =
+    let a = angle-is c in
+    let g = greatest-is c (omega (arith, a .high)) in
+    let p = g .1 in
+    g .2
+    ∙ eq! (y c (pos (g .0))) (y c (pos (angleOfGreatest c))) (omega (arith, a .most (g .0) (omega arith) (omega (arith, p .high, a .high)), p .most (angleOfGreatest c) h (omega (arith, a .high))))
+
 pub timber-lever : (c : Loaded) → c .weather .set ≡ timber → greatestLever c ≡ y c (pos (angleOfGreatest c))
-unfolding angleOfGreatest
-timber-lever c e =
-    let zero : set c .from ≡ 0 = rw e in
-    let all : E c - 0 ≡ E c = omega arith in
-    greatest-at c (rw zero (omega arith)) ∙ ap (λ n. y c (pos (peak (λ t. y c (pos t)) n (E c - n)))) zero ∙ ap (λ n. y c (pos (peak (λ t. y c (pos t)) 0 n))) all
+timber-lever c s = lever-at-angle c (let zero : set c .from ≡ 0 = rw s in omega arith)
 
 -- 'phi0 = first t in 0..E with y >= lw1.'
 pub phi0-is : (c : Loaded) → Reaches (y c) (units (lw1 c)) 0 (E c) (phi0 c)

@@ -37,14 +37,14 @@ third-is c =
 second-fits : (s : tie.Start) → SFits w64 (area3 (ship s) -ℤ area1 (ship s))
 second-fits s = fits _ (omega (arith, area2-within _ (s .pre .0)))
 
-angle-is : (c : tie.After-peak) → c .peak .result ≡ angleOfGreatest (ship (c .before .before .before .before .before .before))
+angle-is : (c : tie.After-peak) → c .peak .result ≡ angleOfGreatest (ship (c .before .before .before .before .before))
 unfolding angleOfGreatest
 angle-is c =
-    let s = c .before .before .before .before .before .before in
+    let s = c .before .before .before .before .before in
     let n : E (ship s) - 0 ≡ E (ship s) = omega arith in
     rw n at (c .peak .ensures) ∙ peak-held (ship s .kn) (ship s .kg) (s .args .y .now) (s .pre .2) 0 (E (ship s)) (omega (arith, fair-end _ (s .pre .0)))
 
-lever-is : (c : tie.After-greatest-lever) → toZ w64 (ofZ w64 (c .greatest-lever .result)) ≡ greatestLever (ship (c .before .before .before .before .before))
+lever-is : (c : tie.After-greatest-lever) → toZ w64 (ofZ w64 (c .greatest-lever .result)) ≡ greatestLever (ship (c .before .before .before .before .before .before))
 lever-is c = toZ-ofZ (record { sfits = c .greatest-lever .ok }) ∙ c .greatest-lever .ensures
 
 gm-is : (c : tie.After-gm) → toZ w64 (ofZ w64 (c .gm .result)) ≡ gm (ship (c .before .before .before .before .before .before .before))
@@ -71,11 +71,11 @@ element-copy-out-area3 c = search needs
 sub-area2 : tie.Need-sub-area2
 sub-area2 c = rw (third-is c, first-is (c .before)) (second-fits (c .before .before .before .before))
 
-greatest-lever-requires : tie.Need-greatest-lever-requires
-greatest-lever-requires c κs = search needs
-
 peak-requires : tie.Need-peak-requires
-peak-requires c κs = (omega arith, fair-end _ (c .before .before .before .before .before .pre .0))
+peak-requires c κs = (omega arith, fair-end _ (c .before .before .before .before .pre .0))
+
+greatest-lever-requires : tie.Need-greatest-lever-requires
+greatest-lever-requires c κs = let s = c .before .before .before .before .before in (s .pre .0, s .pre .1, angle-is c, s .pre .2)
 
 gm-requires : tie.Need-gm-requires
 gm-requires c κs = search needs
@@ -84,7 +84,7 @@ returns : tie.Need-returns
 returns c =
     let a = c .before .before .before in
     let s = a .before .before .before .before in
-    rw (third-is a, first-is (a .before), toZ-ofZ (second-fits s), area2-is (ship s), lever-is (c .before .before), angle-is (c .before), gm-is c)
+    rw (third-is a, first-is (a .before), toZ-ofZ (second-fits s), area2-is (ship s), angle-is (c .before .before), lever-is (c .before), gm-is c)
 
 pub measure-spec : {M : Type 1} → statement M
 measure-spec =
@@ -97,7 +97,7 @@ measure-spec =
     mul-area3
     element-copy-out-area3
     sub-area2
-    greatest-lever-requires
     peak-requires
+    greatest-lever-requires
     gm-requires
     returns)
