@@ -6,7 +6,7 @@ use native.Mathlib.Omega.{arith}
 use lib.IntN.{ℤ, pos}
 use lib.Seq.{ext-getD}
 use Rattle.rules.specs.Curve as rules
-use Rattle.book.specs.Book.{plainSet, loadedOf}
+use Rattle.book.specs.Book.{plainShip, plainWeather, loadedOf}
 use Rattle.book.proofs.Sets.{plain-set}
 use Rattle.book.specs.declared.Loaded.{Loaded}
 use Rattle.curve.specs.Levers.{Holds}
@@ -28,8 +28,8 @@ weighed-fault-one κs a r r′ s s′ p q = p ∙ sym q
 -- The loaded ship of the rules, as plain data: `loadedOf` loses nothing.
 abbrev plainLoaded : rules.Loaded → Loaded
 plainLoaded c = record {
-  ship = record { length = c .ship .hullLength; breadth = c .ship .breadth; keel = c .ship .keelArea; bilge = c .ship .bilge };
-  weather = record { set = plainSet (c .weather .set); wind = c .weather .sky .windArea; z = c .weather .sky .z; cb = c .weather .sky .cb; flooding = c .weather .sky .flooding; deck = c .weather .sky .deckEdge };
+  ship = plainShip (c .ship);
+  weather = plainWeather (c .weather);
   w = c .w;
   kg = c .kg;
   draught = c .draught;

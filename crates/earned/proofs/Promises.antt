@@ -3,7 +3,7 @@
 use mathlib.Core.Path.{_≡_, refl, sym, _∙_}
 use mathlib.Core.Bool.{true, false}
 use mathlib.Core.List.{[], _∷_}
-use Prim.Native.Nat.{ℕ, suc, _+_, _-_, _*_, _≤_, _<_}
+use Prim.Native.Nat.{ℕ, _+_, _-_, _*_, _≤_, _<_}
 use native.Mathlib.Omega.{arith}
 use lib.ListN.{getD, replicate}
 use lib.IntN.{ℤ, pos, negℤ, _+ℤ_, _*ℤ_}
@@ -17,12 +17,13 @@ use Rattle.rules.specs.Loading.{weighed}
 use Rattle.rules.specs.Curve.{Loaded, E, loaded}
 use Rattle.rules.specs.Criteria.{Criteria, limitsOf, set, uses, lw1, phi0, passes5, passes7}
 use Rattle.rules.specs.Roll.{period, phi1, start, e, net, notJudged, noGust}
-use Rattle.rules.specs.Report.{pass, void, slot, verdict, verdict8, judgement}
+use Rattle.rules.specs.Columns.{slotOf}
+use Rattle.rules.specs.Report.{pass, slot, verdict, verdict8, judgement}
 use Rattle.rules.specs.Ranges.{Fair}
 use Rattle.rules.specs.Answer.{answered}
 use Rattle.rules.proofs.rounding.Signed.{Le, le-true, up-mull, dn-mull}
 use Rattle.rules.proofs.loading.Fair.{fair}
-use Rattle.rules.proofs.criteria.EitherSet.{slot-pass}
+use Rattle.rules.proofs.criteria.EitherSet.{verdicts-are, slot-pass, slot-passed}
 use Rattle.rules.proofs.criteria.Ranges.{judged, phi1-from}
 use Rattle.earned.specs.Order.{NoLess, Hull, finer, Better, curve, Follows}
 use Rattle.earned.specs.Verdicts.{Criterion, one, two, three, four, six, seven, passesOver, passesFifth, passes, place, used, Behind}
@@ -54,7 +55,7 @@ order-is m n a b h = le-true (pos m *ℤ a) (pos n *ℤ b) (omega (arith, up-mul
 
 -- ---- criteria 1, 2, 3, 4, 6 and 7
 -- The verdicts below are those of the judgement.
-pub verdict-is : (k : Criterion) (c : Loaded) → getD (judgement c .verdicts) (place k) void ≡ slot (uses c (suc (place k))) (verdict (passes k c))
+pub verdict-is : (k : Criterion) (c : Loaded) → slotOf (place k) (judgement c) ≡ slot (uses c (place k)) (verdict (passes k c))
 unfolding judgement
 verdict-is one c = refl
 verdict-is two c = refl
@@ -63,9 +64,16 @@ verdict-is four c = refl
 verdict-is six c = refl
 verdict-is seven c = refl
 
--- And so what the report says to pass, its set uses and asks.
-pub pass-is-asked : (k : Criterion) (c : Loaded) → getD (judgement c .verdicts) (place k) void ≡ pass → (uses c (suc (place k)) ≡ true) × (passes k c ≡ true)
-pass-is-asked k c e = slot-pass (uses c (suc (place k))) (passes k c) (sym (verdict-is k c) ∙ e)
+-- And so a slot that reads pass is one that the set uses, and what it asks is met ..
+pub pass-is-asked : (k : Criterion) (c : Loaded) → slotOf (place k) (judgement c) ≡ pass → (uses c (place k) ≡ true) × (passes k c ≡ true)
+pass-is-asked k c e = slot-pass (uses c (place k)) (passes k c) (sym (verdict-is k c) ∙ e)
+
+-- .. so with 5; and with 8, whose verdict below is then the slot's.
+pub fifth-is-asked : (c : Loaded) → slotOf 5 (judgement c) ≡ pass → (uses c 5 ≡ true) × (passes5 c ≡ true)
+fifth-is-asked c e = slot-pass (uses c 5) (passes5 c) (rw (verdicts-are c) at e)
+
+pub eighth-is-asked : (c : Loaded) → slotOf 8 (judgement c) ≡ pass → verdict8 c ≡ pass
+eighth-is-asked c e = slot-passed (uses c 8) (verdict8 c) (rw (verdicts-are c) at e)
 
 -- Take any exact values, over any denominator, that were rounded to those used: KG and lw1 no greater, KN and KM no less. A pass with the numbers used is a pass with the exact ones. So none of these six is owed to a rounding of KG, KN, KM or lw1.
 pub pass-is-earned : (D : ℕ) (h : Hull) (c : Loaded) → Behind D h c → (k : Criterion) → passes k c ≡ true → passesOver D k (set c) (c .weather .sky) h ≡ true

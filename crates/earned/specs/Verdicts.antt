@@ -48,14 +48,14 @@ passes four = passes4
 passes six = passes6
 passes seven = passes7
 
--- Its place among the eight verdicts.
+-- Its slot among the eight.
 abbrev pub place : Criterion → ℕ
-place one = 0
-place two = 1
-place three = 2
-place four = 3
-place six = 5
-place seven = 6
+place one = 1
+place two = 2
+place three = 3
+place four = 4
+place six = 6
+place seven = 7
 
 -- The numbers that it uses.
 abbrev pub used : Loaded → Hull

@@ -13,13 +13,15 @@ use Rattle.rules.specs.Layout.{Reading, Allowed}
 use Rattle.rules.specs.Outcome.{refused, got}
 use Rattle.rules.specs.Walk.{read}
 use Rattle.rules.specs.Loading.{weighed}
-use Rattle.rules.specs.Curve.{loaded}
+use Rattle.rules.specs.Curve.{loaded, y}
+use Rattle.rules.specs.Criteria.{angleOfGreatest}
 use Rattle.rules.specs.Columns.{figureIn, slotOf, verdictIn}
 use Rattle.rules.specs.Report.{Verdict, pass, void, unused, verdictNumber, Judgement, judgement, reportLength}
 use Rattle.rules.specs.Answer.{answered, number, written}
 use Rattle.rules.specs.Timber.{readingBy, loadedBy, UnusedSlot, EasedSlot, slot3, slot6, slot7}
 use Rattle.rules.proofs.answer.Steps.{answered-refused}
 use Rattle.rules.proofs.answer.Columns.{verdict-written}
+use Rattle.rules.proofs.criteria.Angles.{timber-lever}
 use Rattle.rules.proofs.criteria.EitherSet.{unused-iff, figures-but-four, eighth-slot, code-as-timber}
 use Rattle.instrument.proofs.Replies as replies
 
@@ -66,6 +68,15 @@ module _ (t before : List ℕ) (n : ℕ) (after : List ℕ) (N : n ≡ number t 
 
   pub unused-sent : (k : ℕ) → 1 ≤ k → k ≤ 8 → (verdictIn k after ≡ hex (4 ∷ [])) ↔ Four k
   unused-sent k low high = let e : k ≡ suc (k - 1) = omega arith in rw e (to-four (k - 1) (omega arith), from-four (k - 1) (omega arith))
+
+  -- With timber on deck slot 4's figure is the lever at the angle that slot 5's figure gives.
+  pub lever-sent : n ≡ 0 → (a : Allowed t) → a .0 .condition .weather .set ≡ timber
+      → (figureIn 6 after ≡ hex (digits 8 (twos (y (loaded (a .0)) (pos (angleOfGreatest (loaded (a .0)))))))) × (figureIn 7 after ≡ hex (digits 8 (angleOfGreatest (loaded (a .0)))))
+  unfolding judgement
+  lever-sent z a s =
+      replies.judged-by t before n after N W room z a (λ w.
+      let c = loaded (a .0) in
+      (replies.figure-is t before n after N W room a w 6 (omega arith) ∙ ap (λ (v : ℤ). hex (digits 8 (twos v))) (timber-lever c (set-of (a .0) ∙ s)), replies.figure-is t before n after N W room a w 7 (omega arith)))
 
 -- ---- a text, and the same in the timber set
 module _ (t t′ before before′ : List ℕ) (n n′ : ℕ) (after after′ : List ℕ) (N : n ≡ number t before) (W : after ≡ written t before) (N′ : n′ ≡ number t′ before′) (W′ : after′ ≡ written t′ before′)
@@ -130,7 +141,7 @@ module _ (t t′ before before′ : List ℕ) (n n′ : ℕ) (after after′ : L
 
     eighth-either : verdictIn 8 after ≡ verdictIn 8 after′
     eighth-either =
-        slot-here 7 (omega arith) ∙ ap (λ (v : Verdict). hex (verdictNumber v ∷ [])) (either (slotOf 8) (eighth-slot (loaded (a .0)) code ∙ sym (eighth-slot (loaded (a .0)) timber)))
+        slot-here 7 (omega arith) ∙ ap (λ (v : Verdict). hex (verdictNumber v ∷ [])) (either (slotOf 8) (eighth-slot (loaded (a .0)) code refl ∙ sym (eighth-slot (loaded (a .0)) timber refl)))
         ∙ sym (slot-there 7 (omega arith))
 
   module _ (z : n ≡ 0) where

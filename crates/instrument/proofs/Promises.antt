@@ -7,7 +7,8 @@ use Prim.Native.Nat.{ℕ, _+_, _*_, _≤_, _<_}
 use lib.ListN.{length, take, drop}
 use denote.Ref.{RefT, now}
 use Rattle.rules.specs.Rounding.{ceil}
-use Rattle.rules.specs.Numbers.{digits}
+use lib.IntN.{pos}
+use Rattle.rules.specs.Numbers.{digits, twos}
 use Rattle.rules.specs.Text.{hex, text, Lines}
 use Rattle.rules.specs.Blocks.{timber, Tank}
 use Rattle.rules.specs.Layout.{Entries, Reading, mostCharacters, Allowed}
@@ -17,7 +18,8 @@ use Rattle.rules.specs.Loading.{mass, moment, freeSurface, weighed}
 use Rattle.rules.specs.Leaves.{sumLeaves, SameSums, loadedWith}
 use Rattle.rules.specs.Cargo.{MadeCargo, RetaggedLines}
 use Rattle.rules.specs.Timber.{TimberLines, UnusedSlot, EasedSlot}
-use Rattle.rules.specs.Curve.{loaded}
+use Rattle.rules.specs.Curve.{loaded, y}
+use Rattle.rules.specs.Criteria.{angleOfGreatest}
 use Rattle.rules.specs.Report.{judgement, noJudgement, report, reportLength}
 use Rattle.rules.specs.Columns.{figureIn, verdictIn}
 use Rattle.rules.specs.Places.{Placed}
@@ -99,6 +101,11 @@ module _ (text before : List ℕ) (n : ℕ) (after : List ℕ) (run : Judges tex
     -- A slot of the report reads 4, unused, exactly where the text is judged in the timber set, its weather a C6, and the slot is 1, 2 or 5. No other slot ever does, and none of a refusal.
     pub unused-reads-four : (k : ℕ) → 1 ≤ k → k ≤ 8 → (verdictIn k after ≡ hex (4 ∷ [])) ↔ ((n ≡ 0) × ((a : Allowed text) × (a .0 .condition .weather .set ≡ timber)) × UnusedSlot k)
     unused-reads-four = sets.unused-sent text before n after (settled .0) (settled .1) room
+
+    -- Where a text with a C6 is judged, slot 4's figure is the greatest lever of the whole curve: the lever at the angle that slot 5's figure gives.
+    pub lever-at-fifth : n ≡ 0 → (a : Allowed text) → a .0 .condition .weather .set ≡ timber
+        → (figureIn 6 after ≡ hex (digits 8 (twos (y (loaded (a .0)) (pos (angleOfGreatest (loaded (a .0)))))))) × (figureIn 7 after ≡ hex (digits 8 (angleOfGreatest (loaded (a .0)))))
+    lever-at-fifth = sets.lever-sent text before n after (settled .0) (settled .1) room
 
     -- ---- demand 3: which texts are judged
     -- The number is none of 1 to 6 and 9 exactly when the text is allowed.

@@ -8,7 +8,7 @@ use native.Mathlib.Omega.{arith}
 use native.Mathlib.Decide.{decLe}
 use lib.Dec.{leb}
 use lib.IntN.{pos}
-use lib.ListN.{length, take, drop, getD, getD-replicate}
+use lib.ListN.{length, take, drop, getD, getD-replicate, length-map}
 use lib.Seq.{take-at, drop-at}
 use borrow.Author.Tests.{leb-true, leb-false}
 use Rattle.rules.specs.Rounding.{ceil}
@@ -74,19 +74,18 @@ module _ (r : Reading) where
   apart O I = ⊎-elim (λ l. omega arith) (λ l. omega arith) O
 
 -- ---- the report is 209 characters
-pub judgement-length : (c : Loaded) → (length (map verdictNumber (judgement c .verdicts)) ≡ 8) × (length (judgement c .figures) ≡ 11)
+judgement-length : (c : Loaded) → (length (judgement c .verdicts) ≡ 8) × (length (judgement c .figures) ≡ 11)
 unfolding judgement
 judgement-length c = (refl, refl)
 
-eight : (c : Loaded) → length (judgement c .verdicts) ≡ 8
-unfolding judgement
-eight c = refl
+numbers-length : (c : Loaded) → length (map verdictNumber (judgement c .verdicts)) ≡ 8
+numbers-length c = length-map (judgement c .verdicts) verdictNumber ∙ judgement-length c .0
 
 refusal-length : (n l o : ℕ) → length (reportOf (refused n l o)) ≡ reportLength
 refusal-length n l o = rw (report-refused n l o) (report-length n l o _ _ refl refl)
 
 judged-length : (c : Loaded) → length (reportOf (got (judgement c))) ≡ reportLength
-judged-length c = rw (report-judged (judgement c)) (report-length 0 0 0 _ _ (judgement-length c .0) (judgement-length c .1))
+judged-length c = rw (report-judged (judgement c)) (report-length 0 0 0 _ _ (numbers-length c) (judgement-length c .1))
 
 -- ---- the answer of a text
 module _ (t : List ℕ) where
@@ -179,7 +178,7 @@ module _ (t before : List ℕ) (n : ℕ) (after : List ℕ) (N : n ≡ number t 
     verdict-judged r e w i k =
         let j = judgement (loaded r) in
         verdict-sent i k ∙ ap (λ (x : Ans Judgement). verdictIn (suc i) (reportOf x)) (fine-answer t r e w) ∙ ap (verdictIn (suc i)) (report-judged j)
-        ∙ slot-column 0 0 0 j (eight (loaded r)) (judgement-length (loaded r) .1) i k
+        ∙ slot-column 0 0 0 j (judgement-length (loaded r) .0) (judgement-length (loaded r) .1) i k
 
     -- ---- the figures of W and KG
     figure-sent : (i : ℕ) → i < 11 → figureIn i after ≡ figureIn i (reportOf (answered t))
@@ -190,7 +189,7 @@ module _ (t before : List ℕ) (n : ℕ) (after : List ℕ) (N : n ≡ number t 
       figure-is i l =
           let c = loaded (a .0) in
           figure-sent i l ∙ ap (λ (x : Ans Judgement). figureIn i (reportOf x)) (fine-answer t (a .0) (read-of t a) w) ∙ ap (figureIn i) (report-judged (judgement c))
-          ∙ figure-column 0 0 0 _ _ (judgement-length c .0) (judgement-length c .1) i l
+          ∙ figure-column 0 0 0 _ _ (numbers-length c) (judgement-length c .1) i l
 
       W-figure : figureIn 0 after ≡ hex (digits 8 (sumLeaves mass (a .0 .condition .load)))
       unfolding judgement loaded

@@ -118,10 +118,15 @@ pub set-alone : (ls ls′ : List (List ℕ)) → TimberLines ls ls′ → Lines 
     → (r : Reading) → read (text ls) ≡ got r → (r .condition .weather .set ≡ code) × (read (text ls′) ≡ got (readingBy timber r))
 set-alone ls ls′ other L h = weathers.read-in-timber other L h
 
--- That is so of each text that is read with a C1: the text's lines, and those that its reading has in the timber set, are such a pair.
+-- That is so of each text that is read. With a C1: the text's lines, and those that its reading has in the timber set, are such a pair ..
 pub every-weather-timber : (s : List ℕ) (r : Reading) → read s ≡ got r → r .condition .weather .set ≡ code
     → TimberLines (frames r) (frames (readingBy timber r)) × Lines (frames r) × (text (frames r) ≡ s) × (length s ≤ mostCharacters)
-every-weather-timber s r e c = weathers.timber-lines s r e c
+every-weather-timber s r e c = weathers.code-lines s r e c
+
+-- .. and with a C6: those that its reading has in the Code's set, and the text's lines.
+pub every-timber-weather : (s : List ℕ) (r : Reading) → read s ≡ got r → r .condition .weather .set ≡ timber
+    → TimberLines (frames (readingBy code r)) (frames r) × Lines (frames (readingBy code r)) × (text (frames r) ≡ s) × (length (text (frames (readingBy code r))) ≤ mostCharacters)
+every-timber-weather s r e c = weathers.timber-lines s r e c
 
 -- ---- what is refused
 -- A text of lines within 12,000 characters is refused with 2 at a line and an offset exactly where a block is met there whose length runs past its parent, or one or two bytes where a block would begin.

@@ -28,23 +28,23 @@ P1-timber-output = broken ("D1006500000000000404010104010101" ∷ "0000000000155
 
 -- By the Code all eight pass; as timber slot 4 fails, 1,247,500,000 being less than 1,250,000,000.
 abbrev tender-figures : String → List ℕ
-tender-figures verdicts = broken ("D10065000000000" ∷ verdicts ∷ "0000000000155CC00000000000001005000000000000018F" ∷ "000000524D031188000000356E00080400000087BB03198C" ∷ "000000004A5B56E0000000000000012C0000000000000035" ∷ "00000000000000E10000002C9AA71777" ∷ [])
+tender-figures verdicts = broken ("D100650000000000" ∷ verdicts ∷ "0000000000155CC00000000000001005000000000000018F" ∷ "000000524D031188000000356E00080400000087BB03198C" ∷ "000000004A5B56E0000000000000012C0000000000000035" ∷ "00000000000000E10000002C9AA71777" ∷ [])
 
 abbrev pub tender-output : List ℕ
-tender-output = tender-figures "00101010101010101"
+tender-output = tender-figures "0101010101010101"
 
 abbrev pub tender-timber-output : List ℕ
-tender-timber-output = tender-figures "00404010004010101"
+tender-timber-output = tender-figures "0404010004010101"
 
 -- By the Code 2, 3, 4 and 7 fail, with no figure in slot 4; as timber all that are used pass, with the lever at 29.9° in slot 4.
 abbrev coaster-figures : String → String → List ℕ
-coaster-figures verdicts lever = broken ("D10065000000000" ∷ verdicts ∷ "0000000000155CC00000000000000F3C0000000000000258" ∷ "00000075637D2E08000000000000000000000075637D2E08" ∷ lever ∷ "000000000000012B0000000000000008" ∷ "00000000000000F80000001AB047F638" ∷ [])
+coaster-figures verdicts lever = broken ("D100650000000000" ∷ verdicts ∷ "0000000000155CC00000000000000F3C0000000000000258" ∷ "00000075637D2E08000000000000000000000075637D2E08" ∷ lever ∷ "000000000000012B0000000000000008" ∷ "00000000000000F80000001AB047F638" ∷ [])
 
 abbrev pub coaster-output : List ℕ
-coaster-output = coaster-figures "00100000001010001" "0000000000000000"
+coaster-output = coaster-figures "0100000001010001" "0000000000000000"
 
 abbrev pub coaster-timber-output : List ℕ
-coaster-timber-output = coaster-figures "00404010104010101" "0000000067E6C9D8"
+coaster-timber-output = coaster-figures "0404010104010101" "0000000067E6C9D8"
 
 -- 'May stand in C1's place': not behind a C1, nor a C1 behind it. 'Tested as C1': another length, a deck edge of 0, no entry behind it.
 abbrev pub timbers : List Case

@@ -63,16 +63,19 @@ pub verdicts-are : (c : Loaded) → judgement c .verdicts
 unfolding judgement
 verdicts-are c = refl
 
--- 8 reads the same in every set.
-pub eighth-slot : (c : Loaded) (s : Set) → slotOf 8 (judgement (loadedBy s c)) ≡ verdict8 c
-eighth-slot c code = rw (verdicts-are (loadedBy code c)) (eighth-in c code)
-eighth-slot c timber = rw (verdicts-are (loadedBy timber c)) (eighth-in c timber)
+-- 8 reads the same in every set that uses it.
+pub eighth-slot : (c : Loaded) (s : Set) → uses (loadedBy s c) 8 ≡ true → slotOf 8 (judgement (loadedBy s c)) ≡ verdict8 c
+eighth-slot c s used = rw (verdicts-are (loadedBy s c), used) (eighth-in c s)
 
 -- A slot that reads pass is used, and passes; one that reads 4 is not used, and what is judged never reads so.
 pub slot-pass : (used passes : Bool) → slot used (verdict passes) ≡ pass → (used ≡ true) × (passes ≡ true)
 slot-pass true true e = (refl, refl)
 slot-pass true false e = absurd (let z : _≡_ {A = ℕ} 0 1 = cc in omega arith)
 slot-pass false passes e = absurd (let z : _≡_ {A = ℕ} 0 1 = cc in omega arith)
+
+pub slot-passed : (used : Bool) (v : Verdict) → slot used v ≡ pass → v ≡ pass
+slot-passed true v e = e
+slot-passed false v e = absurd (let z : _≡_ {A = ℕ} 0 1 = cc in omega arith)
 
 slot-unused : (used : Bool) (v : Verdict) → v ≢ unused → slot used v ≡ unused → used ≡ false
 slot-unused true v h e = absurd (h e)

@@ -109,3 +109,7 @@ timber7 c s = rw s (and-true _)
 -- 'Slots 1, 2 and 5 read 4, unused'; in the Code's set every slot is used.
 pub slots-used : map (λ s. map (λ used. verdictNumber (slot used pass)) (limitsOf s .used)) (code ∷ timber ∷ []) ≡ replicate 8 1 ∷ (4 ∷ 4 ∷ 1 ∷ 1 ∷ 4 ∷ 1 ∷ 1 ∷ 1 ∷ []) ∷ []
 slots-used = refl
+
+-- Of a slot that is not used nothing is asked: its limit is 0.
+pub unused-limits : (limitsOf timber .area1 ≡ 0) × (limitsOf timber .area2 ≡ 0) × (limitsOf timber .angle ≡ 0)
+unused-limits = (refl, refl, refl)

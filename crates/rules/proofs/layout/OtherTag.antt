@@ -24,6 +24,17 @@ both-full (tagHere left) = (refl, refl)
 both-full (afterBlock tag body {rest} {rest′} m) = (full-block tag body rest, full-block tag body rest′)
 both-full (insideGroup {body} {body′} rest m) = (full-block groupTag body rest, full-block groupTag body′ rest)
 
+-- The other way round.
+other-bytes : {a b : ℕ} {s s′ : List ℕ} → OtherTag a b s s′ → OtherTag b a s′ s
+other-bytes (tagHere left) = tagHere left
+other-bytes (afterBlock tag body m) = afterBlock tag body (other-bytes m)
+other-bytes (insideGroup rest m) = insideGroup rest (other-bytes m)
+
+pub other-way : {a b : ℕ} {ls ls′ : List (List ℕ)} → OtherTagLines a b ls ls′ → OtherTagLines b a ls′ ls
+other-way (asFrame left later) = asFrame left later
+other-way (inCondition later m) = inCondition later (other-bytes m)
+other-way (afterLine line m) = afterLine line (other-way m)
+
 -- A line is no longer than its text, and what a frame holds no longer than its line.
 pub text-long : (line : List ℕ) (ls : List (List ℕ)) → length (text (line ∷ ls)) ≡ 2 * length line + suc (length (text ls))
 unfolding text

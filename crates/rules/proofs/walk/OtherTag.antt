@@ -27,11 +27,11 @@ abbrev pub withTag : ℕ → Head → Head
 withTag t h = record { tag = t; body = h .body; rest = h .rest }
 
 -- It is read alike whatever its tag.
-header-tag : (ln at t : ℕ) (s : List ℕ) → header ln at (t ∷ s) ≡ (header ln at (0 ∷ s) >>= λ h. got (withTag t h))
+header-any-tag : (ln at t : ℕ) (s : List ℕ) → header ln at (t ∷ s) ≡ (header ln at (0 ∷ s) >>= λ h. got (withTag t h))
 unfolding header test _>>=_ _>>_
-header-tag ln at t [] = refl
-header-tag ln at t (a ∷ []) = refl
-header-tag ln at t (a ∷ b ∷ s) = go (leb (num (a ∷ b ∷ [])) (length s)) (record { tag = 0; body = take (num (a ∷ b ∷ [])) s; rest = drop (num (a ∷ b ∷ [])) s })
+header-any-tag ln at t [] = refl
+header-any-tag ln at t (a ∷ []) = refl
+header-any-tag ln at t (a ∷ b ∷ s) = go (leb (num (a ∷ b ∷ [])) (length s)) (record { tag = 0; body = take (num (a ∷ b ∷ [])) s; rest = drop (num (a ∷ b ∷ [])) s })
   where
     go : (c : Bool) (h : Head) → (test c 2 ln at >> got (withTag t h)) ≡ ((test c 2 ln at >> got h) >>= λ h. got (withTag t h))
     go true h = refl
@@ -42,7 +42,7 @@ abbrev pub Heads : ℕ → ℕ → Head → Head → Type 0
 Heads a b h g = (x : Head) × (h ≡ withTag a x) × (g ≡ withTag b x)
 
 pub head-alike : (a b ln at : ℕ) (s : List ℕ) → Like (Heads a b) (header ln at (a ∷ s)) (header ln at (b ∷ s))
-head-alike a b ln at s = rw (header-tag ln at a s, header-tag ln at b s) (like-then (header ln at (0 ∷ s)) _ _ (λ x. bothGot (x, refl, refl)))
+head-alike a b ln at s = rw (header-any-tag ln at a s, header-any-tag ln at b s) (like-then (header ln at (0 ∷ s)) _ _ (λ x. bothGot (x, refl, refl)))
 
 -- ---- what is asked of the two tags
 -- Neither begins a frame. Entries that begin with the one and with the other come to the same refusal, or to loads related by R; conditions that do, to conditions related by S.

@@ -13,6 +13,7 @@ use Rattle.rules.specs.Outcome.{refused, got, _>>=_}
 use Rattle.rules.specs.Walk.{fixed, tagOf, blockAt, entries, chosen, weatherAt, loadAt, inside, frameOf, read}
 use Rattle.rules.specs.Timber.{TimberLines, conditionBy, readingBy}
 use Rattle.rules.proofs.layout.Lines.{lines-sound}
+use Rattle.rules.proofs.layout.OtherTag.{as-many-characters, Lines-alike, other-way}
 use Rattle.rules.proofs.layout.Retagged.{frames-timber}
 use Rattle.rules.proofs.walk.Alike.{Like, bothRefused, bothGot, like-bind, like-then, Never, like-refused, like-got}
 use Rattle.rules.proofs.walk.Fuel.{entries-some}
@@ -78,10 +79,22 @@ module _ {ls ls′ : List (List ℕ)} (m : TimberLines ls ls′) (B : Lines ls) 
       same s h = rw (h .0, h .1, ← h .2 .1)
 
 -- ---- the weather of a text that is read
-pub timber-lines : (s : List ℕ) (r : Reading) → read s ≡ got r → r .condition .weather .set ≡ code
-    → TimberLines (frames r) (frames (readingBy timber r)) × Lines (frames r) × (text (frames r) ≡ s) × (length s ≤ mostCharacters)
+read-frames : (s : List ℕ) (r : Reading) → read s ≡ got r → Lines (frames r) × (text (frames r) ≡ s) × (length s ≤ mostCharacters)
 unfolding spellText
-timber-lines s r e c =
+read-frames s r e =
     let L = lines-sound 1 s (frames r) (lines-of-reading s r e) in
     let S = sound s r e in
-    (rw c (frames-timber r), L .1, L .0, omega (arith, ap length (S .1), S .0 .long))
+    (L .1, L .0, omega (arith, ap length (S .1), S .0 .long))
+
+pub code-lines : (s : List ℕ) (r : Reading) → read s ≡ got r → r .condition .weather .set ≡ code
+    → TimberLines (frames r) (frames (readingBy timber r)) × Lines (frames r) × (text (frames r) ≡ s) × (length s ≤ mostCharacters)
+code-lines s r e c = let f = read-frames s r e in (rw c (frames-timber r), f .0, f .1, f .2)
+
+pub timber-lines : (s : List ℕ) (r : Reading) → read s ≡ got r → r .condition .weather .set ≡ timber
+    → TimberLines (frames (readingBy code r)) (frames r) × Lines (frames (readingBy code r)) × (text (frames r) ≡ s) × (length (text (frames (readingBy code r))) ≤ mostCharacters)
+timber-lines s r e c =
+    let f = read-frames s r e in
+    let m : TimberLines (frames (readingBy code r)) (frames r) = rw c (frames-timber r) in
+    let n = as-many-characters m in
+    let l : length (text (frames r)) ≤ mostCharacters = rw (f .1) (f .2) in
+    (m, Lines-alike (other-way m) (omega arith) (omega arith) (f .0), f .1, omega arith)
