@@ -193,7 +193,7 @@ module _ (ls ls′ : List (List ℕ)) (other : TimberLines ls ls′) (L : Lines 
       let q = contract (text ls′) before′ n′ after′ .0 run′ in
       f (p .0) (p .1) (q .0) (q .1)
 
-  -- A C6 is tested as a C1: both get the same number, and where it is none but 0 the same report, and so the same place.
+  -- A C6 is tested as a C1: both get the same number, and where it is not 0 the same report, and so the same place.
   pub tested-as-weather : (n ≡ n′) × (1 ≤ n → take reportLength after ≡ take reportLength after′)
   tested-as-weather = either (λ N W N′ W′. sets.same-number (text ls) (text ls′) before before′ n n′ after after′ N W N′ W′ room room′ (λ m l o. weathers.refused-alike other L short m l o .0) (weathers.read-in-timber other L short))
 
