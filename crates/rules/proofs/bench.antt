@@ -1,6 +1,7 @@
 -- The bench sheet and other worked texts, by computation.
 pub mod Cases
 pub mod Bench
+pub mod Booklet
 pub mod Page
 pub mod Slips
 pub mod Drawing

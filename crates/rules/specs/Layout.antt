@@ -18,7 +18,7 @@ pub record Condition : Type 0 where
   pub weather : Weather
   pub load : Entries
 
--- 'A text is one A1, 2 to 40 A2, one A3, in that order.'
+-- 'A text is one A1, 2 to 40 A2, one A3, in that order.' (A text of several A3 is a booklet: Apart.)
 pub record Reading : Type 0 where
   pub ship : Ship
   pub rows : List Row
@@ -87,8 +87,12 @@ mostEntries = 200
 abbrev pub mostBytes : ℕ
 mostBytes = 4_096
 
+-- 'The library takes up to 180,000 characters', 'up to 24 condition lines' (request 3).
 abbrev pub mostCharacters : ℕ
-mostCharacters = 12_000
+mostCharacters = 180_000
+
+abbrev pub mostConditions : ℕ
+mostConditions = 24
 
 pub record ConditionLimits (c : Condition) : Type 0 where
   pub sky : okWeather (c .weather) ≡ true

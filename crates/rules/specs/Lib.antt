@@ -8,6 +8,8 @@ pub mod Walk
 pub mod Parts
 pub mod Places
 pub mod Met
+pub mod Booklet
+pub mod Apart
 pub mod Loading
 pub mod Leaves
 pub mod Tags

@@ -11,7 +11,7 @@ use Rattle.rules.specs.Blocks.{Layout, ok, values, within, size, Ship, s
 use Rattle.rules.specs.Layout.{Entries, end, leaf, group, leaves, Condition, Reading, fewestRows, mostRows, mostDepth, mostEntries, mostBytes, mostCharacters}
 use Rattle.rules.specs.Outcome.{Ans, refused, got, test, _>>=_, _>>_}
 
--- ---- 1: over 12,000 characters (line 0), else the first line that isn't a line
+-- ---- 1: over 180,000 characters (line 0), else the first line that isn't a line
 -- The value of a digit 0-9 A-F.
 unfoldable pub nibble : ℕ → ℕ → Ans ℕ
 nibble ln c = cond (leb 48 c && leb c 57) (got (c - 48)) (cond (leb 65 c && leb c 70) (got (c - 55)) (refused 1 ln 0))

@@ -1,4 +1,4 @@
--- The place of every refusal lies within the text; so line and offset fit the two bytes that the report has for each.
+-- The place of every refusal of a text of one condition lies within the text.
 use mathlib.Core.Path.{_≡_, refl}
 use mathlib.Core.Logic.{_⊎_, inl, inr}
 use mathlib.Core.List.{List, []}
@@ -9,7 +9,6 @@ use Rattle.rules.specs.Layout.{Reading}
 use Rattle.rules.specs.Outcome.{refused}
 use Rattle.rules.specs.Places.{LineAt, Placed, tooLong, atLine, emptyText, atByte, unweighed}
 use Rattle.rules.specs.Answer.{judged, answered}
-use Rattle.rules.proofs.layout.LineAt.{line-fits}
 use Rattle.rules.proofs.walk.Refusals.{Refusal, given, bind-refusal, test-refusal, last-refusal}
 use Rattle.rules.proofs.walk.PlaceWithin.{read-placed}
 use Rattle.rules.proofs.answer.Steps.{answered-steps, judged-steps, weighed-steps}
@@ -26,14 +25,6 @@ place-within t n l o e = placed .holds n l o e
   where
     placed : Refusal (Placed t) (answered t)
     placed = rw (answered-steps t) (bind-refusal _ _ (read-placed t) (λ r er. judged-placed t r))
-
--- Line and offset fit two bytes each.
-pub place-short : {t : List ℕ} {n l o : ℕ} → Placed t n l o → (l < 65_536) × (o < 65_536)
-place-short (tooLong h) = omega arith
-place-short (atLine c x) = omega (arith, line-fits x)
-place-short (emptyText e) = omega arith
-place-short (atByte a b c x h) = omega (arith, line-fits x)
-place-short (unweighed a b) = omega arith
 
 -- Read the other way: 1 has offset 0; 2 to 6 name a byte of one of the text's own lines, and both its characters stand there, or the text is empty.
 pub one-at-front : {t : List ℕ} {n l o : ℕ} → Placed t n l o → n ≡ 1 → o ≡ 0

@@ -47,25 +47,3 @@ report-refused n l o = refl
 pub report-judged : (j : Judgement) → reportOf (got j) ≡ reportLine 0 0 0 (map verdictNumber (j .verdicts)) (j .figures)
 unfolding reportOf
 report-judged j = refl
-
--- ---- what is sent back
-module _ (t buffer : List ℕ) where
-  pub number-short : length buffer < reportLength → number t buffer ≡ 9
-  unfolding number
-  number-short h = rw (lt-ltb (length buffer) reportLength h, number)
-
-  pub written-short : length buffer < reportLength → written t buffer ≡ buffer
-  unfolding written
-  written-short h = rw (lt-ltb (length buffer) reportLength h, written)
-
-  pub number-room : reportLength ≤ length buffer → number t buffer ≡ numberOf (answered t)
-  unfolding number
-  number-room h = rw (le-ltb (length buffer) reportLength h, number)
-
-  -- 0 says that the text is judged.
-  pub number-judged : (j : Judgement) → answered t ≡ got j → reportLength ≤ length buffer → number t buffer ≡ 0
-  number-judged j e h = number-room h ∙ ap numberOf e
-
-  pub written-room : reportLength ≤ length buffer → written t buffer ≡ reportOf (answered t) ++ drop reportLength buffer
-  unfolding written
-  written-room h = rw (le-ltb (length buffer) reportLength h, written)

@@ -2,6 +2,7 @@
 use mathlib.Core.Path.{_≡_, refl}
 use mathlib.Core.List.{List, [], _∷_, _++_}
 use Prim.Native.String.{String}
+use native.Mathlib.Omega.{arith}
 use Prim.Native.Nat.{ℕ}
 use Rattle.rules.specs.Blocks.{Tank, TankKind, ordinary, cargo, item, tank}
 use Rattle.rules.specs.Layout.{Entries, end, leaf, group, frames, spellText}
@@ -51,7 +52,7 @@ pub planner-made : MadeCargo theTank (tankLoad ordinary) (tankLoad cargo)
 planner-made = afterEntry item (record { mass = 700_000; centre = 3_100 }) (here end)
 
 pub planner-retagged : RetaggedLines (frames (loadedSo (tankLoad ordinary))) (frames (loadedSo (tankLoad cargo))) × (spellText (loadedSo (tankLoad ordinary)) ≡ tanker "C3") × (spellText (loadedSo (tankLoad cargo)) ≡ tanker "C5")
-planner-retagged = (frames-retagged (loadedSo (tankLoad ordinary)) (tankLoad cargo) planner-made, sound (tanker "C3") _ (tanker-reads .0) .1, sound (tanker "C5") _ (tanker-reads .1) .1)
+planner-retagged = (frames-retagged (loadedSo (tankLoad ordinary)) (tankLoad cargo) (omega (arith, sound (tanker "C3") _ (tanker-reads .0) .0 .loaded .long)) planner-made, sound (tanker "C3") _ (tanker-reads .0) .1, sound (tanker "C5") _ (tanker-reads .1) .1)
 
 abbrev deep : TankKind → Entries
 deep k = group (group (group (group (leaf (tank k) theTank end) end) end) end) end

@@ -54,14 +54,14 @@ module _ (ln : ℕ) (h : Head) (alone : length (h .rest) ≡ 0) where
   unfolding conditionIn test _>>=_ _>>_
   bytes-4096 l = rw (alone, le-leb (length (h .body)) 4_096 l)
 
--- 'At most 12,000 characters.'
-pub characters-12001 : (t : List ℕ) → 12_000 < length t → read t ≡ refused 1 0 0
+-- 'Up to 180,000 characters' (request 3).
+pub characters-180001 : (t : List ℕ) → 180_000 < length t → read t ≡ refused 1 0 0
 unfolding read test _>>=_ _>>_
-characters-12001 t l = rw (lt-leb (length t) 12_000 l)
+characters-180001 t l = rw (lt-leb (length t) 180_000 l)
 
-pub characters-12000 : (t : List ℕ) → length t ≤ 12_000 → read t ≡ (linesFrom 1 t >>= readFrames)
+pub characters-180000 : (t : List ℕ) → length t ≤ 180_000 → read t ≡ (linesFrom 1 t >>= readFrames)
 unfolding read test _>>=_ _>>_
-characters-12000 t l = rw (le-leb (length t) 12_000 l)
+characters-180000 t l = rw (le-leb (length t) 180_000 l)
 
 -- 'Corrected KG above 60,000.'
 module _ (r : Reading) (floats : inTable (r .rows) (displacement (entriesOf r)) ≡ true) where

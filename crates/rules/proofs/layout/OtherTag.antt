@@ -32,20 +32,17 @@ other-bytes (insideGroup rest m) = insideGroup rest (other-bytes m)
 
 pub other-way : {a b : ℕ} {ls ls′ : List (List ℕ)} → OtherTagLines a b ls ls′ → OtherTagLines b a ls′ ls
 other-way (asFrame left later) = asFrame left later
-other-way (inCondition later m) = inCondition later (other-bytes m)
+other-way (inCondition {body} {body′} later s m) = let e = same-length m in inCondition {body = body′} {body′ = body} later (omega arith) (other-bytes m)
 other-way (afterLine line m) = afterLine line (other-way m)
 
--- A line is no longer than its text, and what a frame holds no longer than its line.
+-- A line is no longer than its text.
 pub text-long : (line : List ℕ) (ls : List (List ℕ)) → length (text (line ∷ ls)) ≡ 2 * length line + suc (length (text ls))
 unfolding text
 text-long line ls = simp (length-append, length-hex) refl
 
-pub body-short : (body : List ℕ) (ls : List (List ℕ)) → length (text (block conditionTag body ∷ ls)) < 65_536 → length body < 65_536
-body-short body ls l = omega (arith, text-long (block conditionTag body) ls, length-alone conditionTag body)
-
 pub as-many-characters : {a b : ℕ} {ls ls′ : List (List ℕ)} → OtherTagLines a b ls ls′ → length (text ls) ≡ length (text ls′)
 as-many-characters {a} {b} (asFrame left later) = omega (arith, text-long (a ∷ left) later, text-long (b ∷ left) later)
-as-many-characters (inCondition {body} {body′} later m) =
+as-many-characters (inCondition {body} {body′} later s m) =
     omega (arith, same-length m, length-alone conditionTag body, length-alone conditionTag body′, text-long (block conditionTag body) later, text-long (block conditionTag body′) later)
 as-many-characters (afterLine line {ls} {ls′} m) = omega (arith, text-long line ls, text-long line ls′, as-many-characters m)
 
@@ -72,11 +69,10 @@ Bytes-alike (insideGroup {body} {body′} rest m) t l h =
     let p = Bytes-parts (block groupTag body) rest h in
     Bytes-append (block groupTag body′) rest (Bytes-block groupTag body′ (omega arith) (omega arith) (Bytes-alike m t (omega arith) (Bytes-body groupTag body (p .0)))) (p .1)
 
-pub Lines-alike : {a b : ℕ} {ls ls′ : List (List ℕ)} → OtherTagLines a b ls ls′ → b < 256 → length (text ls) < 65_536 → Lines ls → Lines ls′
+pub Lines-alike : {a b : ℕ} {ls ls′ : List (List ℕ)} → OtherTagLines a b ls ls′ → b < 256 → Lines ls → Lines ls′
 unfolding Lines Bytes block
-Lines-alike (asFrame left later) t l h = (refl, (omega arith, h .1 .1), h .2)
-Lines-alike (inCondition {body} {body′} later m) t l h =
-    let s = body-short body later l in
+Lines-alike (asFrame left later) t h = (refl, (omega arith, h .1 .1), h .2)
+Lines-alike (inCondition {body} {body′} later s m) t h =
     let e = same-length m in
     (refl, Bytes-block conditionTag body′ (omega arith) (omega arith) (Bytes-alike m t s (Bytes-body conditionTag body (h .1))), h .2)
-Lines-alike (afterLine line {ls} {ls′} m) t l h = let s = text-long line ls in (h .0, h .1, Lines-alike m t (omega arith) (h .2))
+Lines-alike (afterLine line m) t h = (h .0, h .1, Lines-alike m t (h .2))

@@ -8,6 +8,7 @@ use lib.Dec.{ltb}
 use lib.ListN.{length, length-append}
 use borrow.Author.Tests.{lt-ltb, le-ltb}
 use Rattle.rules.specs.Blocks.{ok, Tank, TankKind, ordinary, cargo, tank, entry}
+use Rattle.rules.specs.Text.{text}
 use Rattle.rules.specs.Layout.{Entries, spell, spellCondition, frames, spellText, Reading, leaves, depth, some, Good, Limits}
 use Rattle.rules.specs.Loading.{Entry, mass, moment, nominallyFull, surfaceMoment, freeSurfaceOf, freeSurface}
 use Rattle.rules.specs.Leaves.{sumLeaves, loadedWith}
@@ -116,10 +117,13 @@ limits-kept r G a good e f l =
     }
 
 pub limits-alike : {t : Tank} (r : Reading) (G : Entries) → MadeCargo t (r .condition .load) G → Limits r ↔ Limits (loadedWith r G)
-unfolding spellText
+unfolding spellText spellCondition
 limits-alike r G m =
     let a = same-shape m in
     let back : SameShape G (r .condition .load) = record { many = sym (a .many); deep = sym (a .deep); any = sym (a .any) } in
     let e = same-length (spell-retagged m) in
-    let f = as-many-characters (frames-retagged r G m) in
-    (limits-kept r G a (good-alike m .0) e f, limits-kept (loadedWith r G) (r .condition .load) back (good-alike m .1) (sym e) (sym f))
+    let c : length (spellCondition (r .condition)) ≡ length (spellCondition (loadedWith r G .condition)) = simp length-append (omega (arith, e)) in
+    let f : length (spellCondition (r .condition)) < 65_536 → length (text (frames r)) ≡ length (text (frames (loadedWith r G))) = λ short. as-many-characters (frames-retagged r G short m) in (
+      λ l. limits-kept r G a (good-alike m .0) e (f (omega (arith, l .loaded .long))) l,
+      λ l. limits-kept (loadedWith r G) (r .condition .load) back (good-alike m .1) (sym e) (sym (f (omega (arith, c, l .loaded .long)))) l,
+    )

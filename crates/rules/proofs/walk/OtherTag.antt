@@ -20,7 +20,7 @@ use Rattle.rules.proofs.walk.FrameExits.{weather-tag}
 use Rattle.rules.proofs.walk.Frames.{frame-got}
 use Rattle.rules.proofs.walk.WholeText.{read-lines}
 use Rattle.rules.proofs.walk.Fuel.{entries-block}
-use Rattle.rules.proofs.layout.OtherTag.{same-length, both-full, text-long, body-short, as-many-characters, Lines-alike}
+use Rattle.rules.proofs.layout.OtherTag.{same-length, both-full, text-long, as-many-characters, Lines-alike}
 
 -- ---- a head
 abbrev pub withTag : ℕ → Head → Head
@@ -164,27 +164,25 @@ module _ {a b : ℕ} {R : Entries → Entries → Type 0} {S : Condition → Con
       like-bind _ _ (like-then (test (leb (length body′) mostBytes) 5 ln 0) _ _ (λ v. inside-alike ln m l)) (λ c d q. bothGot (c, d, refl, refl, q))))
 
   -- Frames after a condition: 4 both times, behind the same 2.
-  closed-alike : {ls ls′ : List (List ℕ)} → OtherTagLines a b ls ls′ → length (text ls) < 65_536 → (ln : ℕ) → Like Never (closed ln ls) (closed ln ls′)
+  closed-alike : {ls ls′ : List (List ℕ)} → OtherTagLines a b ls ls′ → (ln : ℕ) → Like Never (closed ln ls) (closed ln ls′)
   unfolding closed
-  closed-alike (asFrame left later) l ln = like-bind _ _ (head-alike a b ln 0 left) (λ h g e. bothRefused)
-  closed-alike (inCondition {body} {body′} later m) l ln =
-      let s = body-short body later l in
+  closed-alike (asFrame left later) ln = like-bind _ _ (head-alike a b ln 0 left) (λ h g e. bothRefused)
+  closed-alike (inCondition {body} {body′} later s m) ln =
       let e = same-length m in
       rw (frame-got ln conditionTag body s, frame-got ln conditionTag body′ (omega arith)) (like-bind {R = λ h g. Unit {0}} _ _ (bothGot tt) (λ h g u. bothRefused))
-  closed-alike (afterLine line m) l ln = like-then (header ln 0 line) _ _ (λ h. bothRefused)
+  closed-alike (afterLine line m) ln = like-then (header ln 0 line) _ _ (λ h. bothRefused)
 
   no-frame : (ln k p : ℕ) (left : List ℕ) → Like Never (frameAt ln k p (a ∷ left)) (frameAt ln k p (b ∷ left))
   unfolding frameAt
   no-frame ln k p left = like-bind _ _ (head-alike a b ln 0 left) (λ h g e. rw (e .1, e .2, A .noFrame ln .0, A .noFrame ln .1) (like-never _ _ bothRefused))
 
-  tail-alike : {ls ls′ : List (List ℕ)} → OtherTagLines a b ls ls′ → length (text ls) < 65_536 → (ln k p : ℕ) → Like Tails (tail ls ln k p) (tail ls′ ln k p)
+  tail-alike : {ls ls′ : List (List ℕ)} → OtherTagLines a b ls ls′ → (ln k p : ℕ) → Like Tails (tail ls ln k p) (tail ls′ ln k p)
   unfolding tail after
-  tail-alike (asFrame left later) l ln k p = like-never _ _ (no-frame ln k p left)
-  tail-alike (inCondition {body} {body′} later m) l ln k p =
-      like-bind _ _ (frame-alike m (body-short body later l) ln k p) (λ f g e. rw (e .2, e .3) (like-then (closed (ln + 1) later) _ _ (λ u. bothGot (refl, e .4))))
-  tail-alike (afterLine line {ls} {ls′} m) l ln k p =
-      let s = text-long line ls in
-      like-then (frameAt ln k p line) _ _ (λ f. go (λ ln k p. tail-alike m (omega arith) ln k p) (λ ln. closed-alike m (omega arith) ln) f)
+  tail-alike (asFrame left later) ln k p = like-never _ _ (no-frame ln k p left)
+  tail-alike (inCondition later s m) ln k p =
+      like-bind _ _ (frame-alike m s ln k p) (λ f g e. rw (e .2, e .3) (like-then (closed (ln + 1) later) _ _ (λ u. bothGot (refl, e .4))))
+  tail-alike (afterLine line {ls} {ls′} m) ln k p =
+      like-then (frameAt ln k p line) _ _ (λ f. go (λ ln k p. tail-alike m ln k p) (λ ln. closed-alike m ln) f)
     where
       go : ((ln k p : ℕ) → Like Tails (tail ls ln k p) (tail ls′ ln k p)) → ((ln : ℕ) → Like Never (closed ln ls) (closed ln ls′)) → (f : Found) → Like Tails (after (tail ls) ls ln k f) (after (tail ls′) ls′ ln k f)
       go h c (tableRow v) = like-bind _ _ (h (ln + 1) (k + 1) (v .mass)) (λ x y q. bothGot (ap (v ∷_) (q .0), q .1))
@@ -201,15 +199,14 @@ module _ {a b : ℕ} {R : Entries → Entries → Type 0} {S : Condition → Con
       like-bind _ _ (head-alike a b 1 0 left) (λ h g e.
       rw (e .1, e .2, test-refused 4 1 0 (fixedIn 1 ship (withTag a (e .0))) (A .noShip .0), test-refused 4 1 0 (fixedIn 1 ship (withTag b (e .0))) (A .noShip .1)) bothRefused)
 
-  frames-alike : {ls ls′ : List (List ℕ)} → OtherTagLines a b ls ls′ → length (text ls) < 65_536 → Like Readings (readFrames ls) (readFrames ls′)
+  frames-alike : {ls ls′ : List (List ℕ)} → OtherTagLines a b ls ls′ → Like Readings (readFrames ls) (readFrames ls′)
   unfolding readFrames
-  frames-alike (asFrame left later) l = like-never _ _ (no-hull left)
-  frames-alike (inCondition {body} {body′} later m) l =
-      let s = body-short body later l in
+  frames-alike (asFrame left later) = like-never _ _ (no-hull left)
+  frames-alike (inCondition {body} {body′} later s m) =
       let e = same-length m in
       rw (no-ship body later s, no-ship body′ later (omega arith)) bothRefused
-  frames-alike (afterLine line {ls} {ls′} m) l = let s = text-long line ls in like-then (shipFrame 1 line) _ _ (λ v. like-bind _ _ (tail-alike m (omega arith) 2 0 0) (λ x y q. bothGot (refl, q .0, q .1)))
+  frames-alike (afterLine line m) = like-then (shipFrame 1 line) _ _ (λ v. like-bind _ _ (tail-alike m 2 0 0) (λ x y q. bothGot (refl, q .0, q .1)))
 
   -- ---- a whole text
   pub read-alike : {ls ls′ : List (List ℕ)} → OtherTagLines a b ls ls′ → Lines ls → length (text ls) ≤ mostCharacters → Like Readings (read (text ls)) (read (text ls′))
-  read-alike {ls} {ls′} m B l = let e = as-many-characters m in rw (read-lines ls B l, read-lines ls′ (Lines-alike m (A .fits) (omega arith) B) (omega arith)) (frames-alike m (omega arith))
+  read-alike {ls} {ls′} m B l = let e = as-many-characters m in rw (read-lines ls B l, read-lines ls′ (Lines-alike m (A .fits) B) (omega arith)) (frames-alike m)

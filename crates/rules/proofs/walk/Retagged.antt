@@ -98,4 +98,4 @@ unfolding spellText
 retagged-lines s r e G m =
     let L = lines-sound 1 s (frames r) (lines-of-reading s r e) in
     let S = sound s r e in
-    (frames-retagged r G m, L .1, L .0, omega (arith, ap length (S .1), S .0 .long))
+    (frames-retagged r G (omega (arith, S .0 .loaded .long)) m, L .1, L .0, omega (arith, ap length (S .1), S .0 .long))

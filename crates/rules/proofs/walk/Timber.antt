@@ -3,12 +3,12 @@ use mathlib.Core.Path.{_≡_, refl, ap, _∙_}
 use mathlib.Core.Logic.{_↔_}
 use mathlib.Core.Bool.{true}
 use mathlib.Core.List.{List, _∷_}
-use Prim.Native.Nat.{ℕ, _+_, _≤_}
+use Prim.Native.Nat.{ℕ, _+_, _≤_, _<_}
 use native.Mathlib.Omega.{arith}
 use lib.ListN.{length}
 use Rattle.rules.specs.Text.{text, Lines}
 use Rattle.rules.specs.Blocks.{ok, Set, code, timber, Sky, Weather, weather}
-use Rattle.rules.specs.Layout.{Condition, Reading, frames, spellText, mostCharacters}
+use Rattle.rules.specs.Layout.{Condition, Reading, spellCondition, frames, spellText, mostCharacters}
 use Rattle.rules.specs.Outcome.{refused, got, _>>=_}
 use Rattle.rules.specs.Walk.{fixed, tagOf, blockAt, entries, chosen, weatherAt, loadAt, inside, frameOf, read}
 use Rattle.rules.specs.Timber.{TimberLines, conditionBy, readingBy}
@@ -79,22 +79,22 @@ module _ {ls ls′ : List (List ℕ)} (m : TimberLines ls ls′) (B : Lines ls) 
       same s h = rw (h .0, h .1, ← h .2 .1)
 
 -- ---- the weather of a text that is read
-read-frames : (s : List ℕ) (r : Reading) → read s ≡ got r → Lines (frames r) × (text (frames r) ≡ s) × (length s ≤ mostCharacters)
+read-frames : (s : List ℕ) (r : Reading) → read s ≡ got r → Lines (frames r) × (text (frames r) ≡ s) × (length s ≤ mostCharacters) × (length (spellCondition (r .condition)) < 65_536)
 unfolding spellText
 read-frames s r e =
     let L = lines-sound 1 s (frames r) (lines-of-reading s r e) in
     let S = sound s r e in
-    (L .1, L .0, omega (arith, ap length (S .1), S .0 .long))
+    (L .1, L .0, omega (arith, ap length (S .1), S .0 .long), omega (arith, S .0 .loaded .long))
 
 pub code-lines : (s : List ℕ) (r : Reading) → read s ≡ got r → r .condition .weather .set ≡ code
     → TimberLines (frames r) (frames (readingBy timber r)) × Lines (frames r) × (text (frames r) ≡ s) × (length s ≤ mostCharacters)
-code-lines s r e c = let f = read-frames s r e in (rw c (frames-timber r), f .0, f .1, f .2)
+code-lines s r e c = let f = read-frames s r e in (rw c (frames-timber r (f .3)), f .0, f .1, f .2)
 
 pub timber-lines : (s : List ℕ) (r : Reading) → read s ≡ got r → r .condition .weather .set ≡ timber
     → TimberLines (frames (readingBy code r)) (frames r) × Lines (frames (readingBy code r)) × (text (frames r) ≡ s) × (length (text (frames (readingBy code r))) ≤ mostCharacters)
 timber-lines s r e c =
     let f = read-frames s r e in
-    let m : TimberLines (frames (readingBy code r)) (frames r) = rw c (frames-timber r) in
+    let m : TimberLines (frames (readingBy code r)) (frames r) = rw c (frames-timber r (f .3)) in
     let n = as-many-characters m in
     let l : length (text (frames r)) ≤ mostCharacters = rw (f .1) (f .2) in
-    (m, Lines-alike (other-way m) (omega arith) (omega arith) (f .0), f .1, omega arith)
+    (m, Lines-alike (other-way m) (omega arith) (f .0), f .1, omega arith)

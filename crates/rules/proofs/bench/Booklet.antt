@@ -1,0 +1,96 @@
+-- Request 3 by computation: P1 as a booklet of one, booklets of two conditions and of 24, each refusal for the whole in its place, rooms and limits.
+use mathlib.Core.Path.{_≡_, refl}
+use mathlib.Core.List.{List, [], _∷_, _++_}
+use Prim.Native.Nat.{ℕ, _*_, _-_}
+use Prim.Native.String.{String}
+use lib.ListN.{length, replicate}
+use Rattle.rules.specs.Layout.{mostCharacters}
+use Rattle.rules.specs.Report.{concat}
+use Rattle.rules.specs.Answer.{number, bytesSent, written, room}
+use Rattle.rules.proofs.bench.Cases.{lines, refusal}
+use Rattle.rules.proofs.bench.Bench.{ship, row1, row2, P1, P1-output}
+
+-- ---- texts
+-- P1's condition; with the length of its C2 a byte too much; with a mass below the table's first row.
+abbrev fine : String
+fine = "A30018C1000C000009C40FA002BC01F400C8C2000600155CC00FA0"
+
+abbrev overrun : String
+overrun = "A30018C1000C000009C40FA002BC01F400C8C2000700155CC00FA0"
+
+abbrev light : String
+light = "A30018C1000C000009C40FA002BC01F400C8C2000600155CBF0FA0"
+
+-- Ship and rows of P1, with any lines behind them.
+abbrev booklet : List String → List ℕ
+booklet conditions = lines (ship ∷ row1 ∷ row2 ∷ conditions)
+
+-- ---- cases
+-- A text within a limit of characters, in a buffer of so many sevens, has a number and report lines, and the sevens beyond them stay; or it asks for so much room.
+pub data BookletCase : Type 0 where
+  sends : (most : ℕ) (text : List ℕ) (buffer : ℕ) (number : ℕ) (reports : List (List ℕ)) → BookletCase
+  asks : (most : ℕ) (text : List ℕ) (room : ℕ) → BookletCase
+
+abbrev pub Holds : BookletCase → Type 0
+Holds (sends most t b n rs) = (number most t (replicate b 7) ≡ n) × (bytesSent most t (replicate b 7) ≡ 209 * length rs) × (written most t (replicate b 7) ≡ concat rs ++ replicate (b - 209 * length rs) 7)
+Holds (asks most t r) = room most t ≡ r
+
+abbrev pub All : List BookletCase → Type 0
+All [] = Unit {0}
+All (c ∷ cs) = Holds c × All cs
+
+-- ---- each condition for itself
+abbrev pub apart : List BookletCase
+apart =
+    sends mostCharacters P1 211 0 (P1-output ∷ [])
+    ∷ sends mostCharacters (booklet (overrun ∷ fine ∷ [])) 420 2 (refusal "D100650200040012" ∷ P1-output ∷ [])
+    ∷ sends mostCharacters (booklet (fine ∷ overrun ∷ [])) 418 2 (P1-output ∷ refusal "D100650200050012" ∷ [])
+    ∷ sends mostCharacters (booklet (fine ∷ light ∷ overrun ∷ [])) 627 7 (P1-output ∷ refusal "D100650700000000" ∷ refusal "D100650200060012" ∷ [])
+    ∷ sends mostCharacters (booklet ("A3" ∷ fine ∷ [])) 418 2 (refusal "D100650200040000" ∷ P1-output ∷ [])
+    ∷ []
+
+pub apart-hold : All apart
+unfolding number bytesSent written
+apart-hold = ((refl, refl, refl), ((refl, refl, refl), ((refl, refl, refl), ((refl, refl, refl), ((refl, refl, refl), tt)))))
+
+-- ---- for the whole text
+-- An A3 before the second row, a line behind an A3, each with 4 and with 2, and before a fault inside a condition; a 25th condition line, also behind a misplaced one; no A3; no line.
+abbrev pub wholes : List BookletCase
+wholes =
+    sends mostCharacters (lines (ship ∷ row1 ∷ fine ∷ row2 ∷ fine ∷ [])) 418 4 (refusal "D100650400030000" ∷ [])
+    ∷ sends mostCharacters (lines (ship ∷ row1 ∷ "A3" ∷ row2 ∷ fine ∷ [])) 418 2 (refusal "D100650200030000" ∷ [])
+    ∷ sends mostCharacters (booklet (overrun ∷ row2 ∷ fine ∷ [])) 418 4 (refusal "D100650400050000" ∷ [])
+    ∷ sends mostCharacters (booklet (overrun ∷ fine ∷ "A2" ∷ [])) 418 2 (refusal "D100650200060000" ∷ [])
+    ∷ sends mostCharacters (booklet (replicate 25 "A3")) 209 5 (refusal "D1006505001C0000" ∷ [])
+    ∷ sends mostCharacters (lines (replicate 25 "A3")) 209 5 (refusal "D100650500190000" ∷ [])
+    ∷ sends mostCharacters (booklet []) 209 5 (refusal "D100650500030000" ∷ [])
+    ∷ sends mostCharacters (booklet (overrun ∷ "A" ∷ [])) 209 1 (refusal "D100650100050000" ∷ [])
+    ∷ []
+
+pub wholes-hold : All wholes
+unfolding number bytesSent written
+wholes-hold =
+    ((refl, refl, refl), ((refl, refl, refl), ((refl, refl, refl), ((refl, refl, refl), ((refl, refl, refl), ((refl, refl, refl), ((refl, refl, refl), ((refl, refl, refl), tt))))))))
+
+-- ---- rooms and limits
+-- 24 condition lines are 24 reports; with a byte less than 209 for each nothing is written, nor with less than 209; a misplaced line does not lessen the room; 1 goes before the second 9; a limit met and missed by one.
+abbrev pub rooms : List BookletCase
+rooms =
+    asks mostCharacters P1 209
+    ∷ asks mostCharacters (booklet (replicate 24 "A3")) 5_016
+    ∷ asks mostCharacters (booklet (replicate 25 "A3")) 209
+    ∷ asks mostCharacters (booklet (fine ∷ row2 ∷ fine ∷ [])) 418
+    ∷ asks mostCharacters [] 209
+    ∷ sends mostCharacters (booklet (replicate 24 "A3")) 5_015 9 []
+    ∷ sends mostCharacters (booklet (fine ∷ row2 ∷ fine ∷ [])) 417 9 []
+    ∷ sends mostCharacters P1 208 9 []
+    ∷ sends mostCharacters (lines ("A" ∷ [])) 208 9 []
+    ∷ sends mostCharacters (lines (fine ∷ fine ∷ "A" ∷ [])) 209 1 (refusal "D100650100030000" ∷ [])
+    ∷ sends (length P1 - 1) P1 209 1 (refusal "D100650100000000" ∷ [])
+    ∷ sends (length P1) P1 209 0 (P1-output ∷ [])
+    ∷ []
+
+pub rooms-hold : All rooms
+unfolding number bytesSent written room
+rooms-hold =
+    (refl, (refl, (refl, (refl, (refl, ((refl, refl, refl), ((refl, refl, refl), ((refl, refl, refl), ((refl, refl, refl), ((refl, refl, refl), ((refl, refl, refl), ((refl, refl, refl), tt))))))))))))

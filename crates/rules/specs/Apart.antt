@@ -1,0 +1,58 @@
+-- 'Demand 3 then speaks of ship, rows and each condition apart' (request 3): which texts are allowed as a whole, and which condition lines are, with no reader.
+use mathlib.Core.Path.{_≡_}
+use mathlib.Core.Bool.{true}
+use mathlib.Core.List.{List, [], _∷_}
+use Prim.Native.Nat.{ℕ, _≤_}
+use lib.ListN.{length, getD, set}
+use Rattle.rules.specs.Numbers.{Bytes}
+use Rattle.rules.specs.Text.{text}
+use Rattle.rules.specs.Blocks.{block, ok, ship, conditionTag}
+use Rattle.rules.specs.Layout.{Condition, Reading, spellCondition, Rising, fewestRows, mostRows, mostConditions, ConditionLimits}
+use Rattle.rules.specs.Met.{lead}
+use Rattle.rules.specs.Booklet.{Booklet}
+
+-- Lines that begin with A3, whatever else they hold.
+unfoldable pub BeginA3 : List (List ℕ) → Type 0
+BeginA3 [] = Unit {0}
+BeginA3 (l ∷ ls) = (getD l 0 0 ≡ conditionTag) × Bytes l × BeginA3 ls
+
+-- The ship's line, those of the rows, and the condition lines.
+abbrev pub linesOf : Booklet → List (List ℕ)
+linesOf b = lead (b .ship) (b .rows) (b .conditions)
+
+unfoldable pub spellBooklet : Booklet → List ℕ
+spellBooklet b = text (linesOf b)
+
+pub record WholeLimits (most : ℕ) (b : Booklet) : Type 0 where
+  pub hull : ok ship (b .ship) ≡ true
+  pub rising : Rising 0 (b .rows)
+  pub few : fewestRows ≤ length (b .rows)
+  pub many : length (b .rows) ≤ mostRows
+  pub begin : BeginA3 (b .conditions)
+  pub some : 1 ≤ length (b .conditions)
+  pub atMost : length (b .conditions) ≤ mostConditions
+  pub long : length (spellBooklet b) ≤ most
+
+-- A text is allowed as a whole when it spells a ship and rows within the limits, and behind them lines that begin with A3.
+abbrev pub AllowedWhole : ℕ → List ℕ → Type 0
+AllowedWhole most t = (b : Booklet) × WholeLimits most b × (spellBooklet b ≡ t)
+
+-- A condition line is allowed when it spells a condition within the limits.
+abbrev pub AllowedLine : List ℕ → Type 0
+AllowedLine l = (c : Condition) × ConditionLimits c × (block conditionTag (spellCondition c) ≡ l)
+
+-- ---- one condition of a booklet
+-- Condition line k, from 0; its number in the text; the reading of it where it says this condition.
+abbrev pub lineAt : Booklet → ℕ → List ℕ
+lineAt b k = getD (b .conditions) k []
+
+abbrev pub readingAt : Booklet → Condition → Reading
+readingAt b c = record { ship = b .ship; rows = b .rows; condition = c }
+
+-- The booklet with this condition line alone.
+abbrev pub alone : Booklet → List ℕ → Booklet
+alone b l = record { ship = b .ship; rows = b .rows; conditions = l ∷ [] }
+
+-- The booklet with another line in the place of its condition line k.
+abbrev pub respelt : Booklet → ℕ → List ℕ → Booklet
+respelt b k l = record { ship = b .ship; rows = b .rows; conditions = set (b .conditions) k l }
