@@ -1,10 +1,11 @@
--- What the code answers at a condition and at a frame, from what the rules answer.
-use Rattle.rules.specs.Blocks as blocks
+-- What the code answers at a condition, from what the rules answer, and at a line of which it holds the front alone.
+use mathlib.Core.Bool.{Bool, cond}
+use Prim.Native.Nat.{ℕ, _+_}
+use lib.Dec.{ltb, eqb}
 use Rattle.rules.specs.Layout.{Entries}
 use Rattle.rules.specs.Layout as rules
-use Rattle.rules.specs.Outcome.{Ans, refused, got, _>>=_}
-use Rattle.rules.specs.Walk as walk
-use Rattle.book.specs.Book.{refusal, noRefusal, plainWeather, sumsOf, plainRow, blankRow}
+use Rattle.rules.specs.Outcome.{Ans, refused, got}
+use Rattle.book.specs.Book.{refusal, noRefusal, plainWeather, sumsOf}
 use Rattle.book.specs.declared.Refusal.{Refusal}
 use Rattle.book.specs.declared.Sums.{Sums}
 use Rattle.book.specs.declared.Weather.{Weather}
@@ -12,9 +13,8 @@ use Rattle.frames.specs.Sums.{plus}
 use Rattle.frames.specs.declared.LoadRead.{LoadRead}
 use Rattle.frames.specs.declared.LoadRead.the-variants as load
 use Rattle.frames.specs.declared.Condition.{Condition}
-use Rattle.frames.specs.declared.Found.{Found}
-use Rattle.frames.specs.declared.Found.the-variants as found
-use Rattle.frames.specs.declared.FrameRead.{FrameRead}
+use Rattle.frames.specs.declared.ConditionRead.{ConditionRead}
+use Rattle.frames.specs.declared.ConditionRead.the-variants as condition
 
 -- The entries, on top of t.
 abbrev pub loadRead : Sums → Ans Entries → LoadRead
@@ -28,21 +28,24 @@ loadFault (load.Refused r) = r
 abbrev pub plainCondition : rules.Condition → Condition
 plainCondition c = record { weather = plainWeather (c .weather); sums = sumsOf (c .load) }
 
-abbrev pub conditionFound : Ans rules.Condition → Found
-conditionFound (refused n l o) = found.Refused (refusal n l o)
-conditionFound (got c) = found.Condition (plainCondition c)
+abbrev pub conditionRead : Ans rules.Condition → ConditionRead
+conditionRead (refused n l o) = condition.Refused (refusal n l o)
+conditionRead (got c) = condition.Within (plainCondition c)
+
+abbrev pub conditionFault : ConditionRead → Refusal
+conditionFault (condition.Within c) = noRefusal
+conditionFault (condition.Refused r) = r
 
 -- The weather, and the load after it.
-abbrev pub loaded : Weather → LoadRead → Found
-loaded w (load.Sum t) = found.Condition (record { weather = w; sums = t })
-loaded w (load.Refused r) = found.Refused r
+abbrev pub loaded : Weather → LoadRead → ConditionRead
+loaded w (load.Sum t) = condition.Within (record { weather = w; sums = t })
+loaded w (load.Refused r) = condition.Refused r
 
--- ---- a frame after the ship's: a row beside it, blank where there is none
-abbrev pub frameRead : Ans walk.Found → FrameRead
-frameRead (refused n l o) = record { found = found.Refused (refusal n l o); row = blankRow }
-frameRead (got (walk.tableRow r)) = record { found = found.Row; row = plainRow r }
-frameRead (got (walk.theCondition c)) = record { found = found.Condition (plainCondition c); row = blankRow }
+-- ---- a line of n bytes by its head alone, whose length is len
+-- More than a ship or a row has: 2, then 4 where the tag is not due, else 3.
+abbrev pub longFrame : ℕ → Bool → ℕ → ℕ → Refusal
+longFrame ln due len n = cond (ltb n (3 + len)) (refusal 2 ln 0) (cond due (refusal 3 ln 0) (refusal 4 ln 0))
 
--- A row by itself is such a frame.
-abbrev pub rowFrame : Ans blocks.Row → FrameRead
-rowFrame m = frameRead (m >>= λ v. got (walk.tableRow v))
+-- A condition line of more than 4,099: 2, 3, else 5.
+abbrev pub longCondition : ℕ → ℕ → ℕ → Refusal
+longCondition ln len n = cond (ltb n (3 + len)) (refusal 2 ln 0) (cond (eqb n (3 + len)) (refusal 5 ln 0) (refusal 3 ln 0))

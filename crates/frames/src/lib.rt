@@ -1,31 +1,32 @@
-// Frames: the ship's, and each after it; the condition, and the entries with the groups within them. The first fault met ends the reading:
+// Frames: the ship's, a row's, a condition's, and the entries with the groups within it. The first fault met ends the reading:
 // each answer is taken, or its refusal is returned with its place.
 ghost use mathlib.Core.Path.{_≡_};
 ghost use Prim.Native.Nat.{_+_, _-_, _≤_};
 ghost use lib.ListN.{length};
 ghost use Rattle.rules.specs.Layout.{mostEntries, mostBytes};
 ghost use Rattle.rules.specs.Outcome.{refused};
-ghost use Rattle.rules.specs.Walk.{entries, loadAt, inside, conditionIn, shipFrame, rowIn, frameAt};
-ghost use Rattle.rules.specs.Parts.{part, headAt};
-ghost use Rattle.blocks.specs.BlockAnswers.{shipRead};
+ghost use Rattle.rules.specs.Walk.{entries, loadAt, inside, conditionIn, shipFrame};
+ghost use Rattle.rules.specs.Booklet.{rowAt, conditionAt};
+ghost use Rattle.rules.specs.Parts.{be2, part, headAt};
+ghost use Rattle.blocks.specs.BlockAnswers.{shipRead, rowRead};
 ghost use Rattle.frames.specs.Sums.{none, plus, Bounded};
-ghost use Rattle.frames.specs.FrameAnswers.{loadRead, loadFault, conditionFound, loaded, frameRead, rowFrame};
+ghost use Rattle.frames.specs.FrameAnswers.{loadRead, loadFault, conditionRead, conditionFault, loaded, longFrame, longCondition};
 use blocks::entries::Block;
 use blocks::refusal;
 use blocks::row::RowAnswer;
+use blocks::row::RowRead;
 use blocks::ship::ShipRead;
 use blocks::weather::WeatherRead;
 use cursor::Head;
 use cursor::Part;
+use numbers::u16_at;
 
-// 'At most 200 items and tanks', 'at most 4 groups deep', 'at most 4,096 bytes', '2 to 40 A2'.
+// 'At most 200 items and tanks', 'at most 4 groups deep', 'at most 4,096 bytes', 'up to 40 A2'.
 const MOST_ENTRIES: u64 = 200;
 
 const MOST_DEPTH: u64 = 4;
 
 const MOST_BYTES: usize = 4_096;
-
-const FEWEST_ROWS: usize = 2;
 
 const MOST_ROWS: usize = 40;
 
@@ -52,16 +53,21 @@ pub struct Condition {
     pub sums: book::Sums,
 }
 
-pub enum Found {
-    Row,
-    Condition(Condition),
+pub enum ConditionRead {
+    Within(Condition),
     Refused(book::Refusal),
 }
 
-// A frame after the ship's, and the row beside it, blank where the frame is none.
-pub struct FrameRead {
-    pub found: Found,
-    pub row: book::Row,
+impl ConditionRead {
+    // The refusal, or none.
+    pub fn fault(self) -> book::Refusal
+        ensures { λ r. ⌜ r ≡ conditionFault self ⌝ }
+    {
+        match self {
+            ConditionRead::Within(_) => book::NO_REFUSAL,
+            ConditionRead::Refused(r) => r,
+        }
+    }
 }
 
 // ---- the entries
@@ -77,34 +83,46 @@ fn add(t: book::Sums, u: book::Sums) -> book::Sums
     }
 }
 
-// The entries in `s`, of which the first begins at `at` of its line, on top of `t`, with so many depths left. A group lends its own body.
+// The entries in `s`, of which the first begins at `at` of its line, on top of `t`, with so many depths left: one after the other, and those of a group, which lends its own body, before what stands after it.
 fn entries(s: &[u8], line: usize, at: usize, depth: u64, t: book::Sums) -> LoadRead
     requires { ⌜ (at + length (now s) ≤ 3 + mostBytes) × Bounded t ⌝ }
     ensures { λ r. ⌜ r ≡ loadRead t (entries line depth (mostEntries - t .count) at (now (s .entry))) ⌝ }
 {
-    if s.len() == 0 {
-        return LoadRead::Sum(t);
+    let mut sums = t;
+    let mut rest = s;
+    let mut rest_at = at;
+    while rest.len() != 0 {
+        let head = cursor::begin(rest, line, rest_at);
+        let Head::Block { tag, len } = head else {
+            return LoadRead::Refused(head.fault());
+        };
+        let body = cursor::bytes(rest, Part::Body, len);
+        let b = blocks::entries::block_at(
+            tag,
+            body,
+            line,
+            rest_at,
+            depth,
+            MOST_ENTRIES - sums.count,
+        );
+        match b {
+            Block::Refused(r) => return LoadRead::Refused(r),
+            Block::Entry(e) => {
+                sums = add(sums, e);
+            }
+            Block::Group => {
+                let body_at = cursor::onward(rest_at, Part::Body, len);
+                let inner = entries(body, line, body_at, depth - 1, sums);
+                let LoadRead::Sum(u) = inner else {
+                    return inner;
+                };
+                sums = u;
+            }
+        }
+        rest = &rest[3 + len..];
+        rest_at = cursor::onward(rest_at, Part::Rest, len);
     }
-    let head = cursor::begin(s, line, at);
-    let Head::Block { tag, len } = head else {
-        return LoadRead::Refused(head.fault());
-    };
-    let body = cursor::bytes(s, Part::Body, len);
-    let rest = cursor::bytes(s, Part::Rest, len);
-    let rest_at = cursor::onward(at, Part::Rest, len);
-    let b = blocks::entries::block_at(tag, body, line, at, depth, MOST_ENTRIES - t.count);
-    match b {
-        Block::Refused(r) => return LoadRead::Refused(r),
-        Block::Entry(e) => return entries(rest, line, rest_at, depth, add(t, e)),
-        Block::Group => {}
-    }
-    // A group: what is inside it, and then what stands after it.
-    let body_at = cursor::onward(at, Part::Body, len);
-    let inner = entries(body, line, body_at, depth - 1, t);
-    let LoadRead::Sum(u) = inner else {
-        return inner;
-    };
-    entries(rest, line, rest_at, depth, u)
+    LoadRead::Sum(sums)
 }
 
 // ---- the condition
@@ -126,32 +144,32 @@ fn load_at(s: &[u8], line: usize, at: usize) -> LoadRead
 }
 
 // The weather, and the load after it.
-fn loaded(weather: book::Weather, load: LoadRead) -> Found
+fn loaded(weather: book::Weather, load: LoadRead) -> ConditionRead
     ensures { λ r. ⌜ r ≡ loaded weather load ⌝ }
 {
     let LoadRead::Sum(sums) = load else {
-        return Found::Refused(load.fault());
+        return ConditionRead::Refused(load.fault());
     };
-    Found::Condition(Condition { weather, sums })
+    ConditionRead::Within(Condition { weather, sums })
 }
 
 // Inside a condition: the weather, and the load. 5: 'A3 empty'.
-fn inside(s: &[u8], len: usize, line: usize) -> Found
+fn inside(s: &[u8], len: usize, line: usize) -> ConditionRead
     requires { ⌜ (3 + len ≤ length (now s)) × (len ≤ mostBytes) ⌝ }
-    ensures { λ r. ⌜ r ≡ conditionFound (inside line (part 3 (3 + len) (now (s .entry)))) ⌝ }
+    ensures { λ r. ⌜ r ≡ conditionRead (inside line (part 3 (3 + len) (now (s .entry)))) ⌝ }
 {
     if len == 0 {
-        return Found::Refused(refusal(5, line, 0));
+        return ConditionRead::Refused(refusal(5, line, 0));
     }
     let head = cursor::begin_in(s, line, 0, Part::Body, len);
     let Head::Block { tag, len: first } = head else {
-        return Found::Refused(head.fault());
+        return ConditionRead::Refused(head.fault());
     };
     let body = cursor::bytes(s, Part::Body, len);
     let body_at = cursor::onward(0, Part::Body, len);
     let w = blocks::weather::weather_at(tag, cursor::bytes(body, Part::Body, first), line);
     let WeatherRead::Within(weather) = w else {
-        return Found::Refused(w.fault());
+        return ConditionRead::Refused(w.fault());
     };
     let rest = cursor::bytes(body, Part::Rest, first);
     let rest_at = cursor::onward(body_at, Part::Rest, first);
@@ -159,15 +177,15 @@ fn inside(s: &[u8], len: usize, line: usize) -> Found
 }
 
 // A condition whose head is read: 3, 5, and what is inside.
-fn condition_in(s: &[u8], len: usize, line: usize) -> Found
+fn condition_in(s: &[u8], len: usize, line: usize) -> ConditionRead
     requires { ⌜ 3 + len ≤ length (now s) ⌝ }
-    ensures { λ r. ⌜ r ≡ conditionFound (conditionIn line (headAt 0xA3 len (now (s .entry)))) ⌝ }
+    ensures { λ r. ⌜ r ≡ conditionRead (conditionIn line (headAt 0xA3 len (now (s .entry)))) ⌝ }
 {
     if s.len() != 3 + len {
-        return Found::Refused(refusal(3, line, 0));
+        return ConditionRead::Refused(refusal(3, line, 0));
     }
     if MOST_BYTES < len {
-        return Found::Refused(refusal(5, line, 0));
+        return ConditionRead::Refused(refusal(5, line, 0));
     }
     inside(s, len, line)
 }
@@ -187,54 +205,71 @@ pub fn ship_frame(s: &[u8], line: usize) -> ShipRead
     blocks::ship::ship_in(s, len, line)
 }
 
-fn no_frame(r: book::Refusal) -> FrameRead
-    ensures { λ f. ⌜ f ≡ frameRead (refused (r .number) (r .line) (r .offset)) ⌝ }
+fn no_row(r: book::Refusal) -> RowRead
+    ensures { λ x. ⌜ x ≡ rowRead (refused (r .number) (r .line) (r .offset)) ⌝ }
 {
-    FrameRead {
-        found: Found::Refused(r),
+    RowRead {
+        answer: RowAnswer::Refused(r),
         row: blocks::row::blank_row(),
     }
 }
 
-// A row whose head is read, its W above the last row's.
-fn row_frame(s: &[u8], len: usize, line: usize, last: u64) -> FrameRead
-    requires { ⌜ 3 + len ≤ length (now s) ⌝ }
-    ensures { λ r. ⌜ r ≡ rowFrame (rowIn line last (headAt 0xA2 len (now (s .entry)))) ⌝ }
-{
-    let read = blocks::row::row_in(s, len, line, last);
-    let answer = read.answer;
-    let RowAnswer::Within = answer else {
-        return no_frame(answer.fault());
-    };
-    let row = read.row;
-    FrameRead {
-        found: Found::Row,
-        row,
-    }
-}
-
-// One after the ship's, with so many rows before it, the last of them with W = last: 2, 4, and what it is.
-pub fn frame_at(s: &[u8], line: usize, rows: usize, last: u64) -> FrameRead
-    ensures { λ r. ⌜ r ≡ frameRead (frameAt line rows last (now (s .entry))) ⌝ }
+// One where a row is due, with so many rows before it, the last of them with W = last: 2, 4, 3, 6.
+pub fn row_frame(s: &[u8], line: usize, rows: usize, last: u64) -> RowRead
+    ensures { λ r. ⌜ r ≡ rowRead (rowAt line rows last (now (s .entry))) ⌝ }
 {
     let head = cursor::begin(s, line, 0);
     let Head::Block { tag, len } = head else {
-        return no_frame(head.fault());
+        return no_row(head.fault());
     };
-    if tag == 0xA2 {
-        if MOST_ROWS <= rows {
-            return no_frame(refusal(4, line, 0));
-        }
-        return row_frame(s, len, line, last);
+    if tag != 0xA2 {
+        return no_row(refusal(4, line, 0));
     }
-    if tag == 0xA3 {
-        if rows < FEWEST_ROWS {
-            return no_frame(refusal(4, line, 0));
-        }
-        return FrameRead {
-            found: condition_in(s, len, line),
-            row: blocks::row::blank_row(),
-        };
+    if MOST_ROWS <= rows {
+        return no_row(refusal(4, line, 0));
     }
-    no_frame(refusal(4, line, 0))
+    blocks::row::row_in(s, len, line, last)
+}
+
+// A condition line: 2, 3, 5, and what is inside.
+pub fn condition_frame(s: &[u8], line: usize) -> ConditionRead
+    ensures { λ r. ⌜ r ≡ conditionRead (conditionAt line (now (s .entry))) ⌝ }
+{
+    let head = cursor::begin(s, line, 0);
+    let Head::Block { tag: _, len } = head else {
+        return ConditionRead::Refused(head.fault());
+    };
+    condition_in(s, len, line)
+}
+
+// ---- lines of which only the front is held
+// A line of `n` bytes, more than a ship or a row has, by its head alone: 2, then 4 where the tag is not due, else 3.
+pub fn long_frame(head: &[u8], n: usize, line: usize, due: bool) -> book::Refusal
+    requires { ⌜ 3 ≤ length (now head) ⌝ }
+    ensures { λ r. ⌜ r ≡ longFrame line due (be2 (now (head .entry)) 1) n ⌝ }
+{
+    if n < 3 + u16_at(head, 1) as usize {
+        return refusal(2, line, 0);
+    }
+    if due {
+        refusal(3, line, 0)
+    } else {
+        refusal(4, line, 0)
+    }
+}
+
+// A condition line of `n` bytes, more than 4,099, by its head alone: 2, 3, else 5.
+pub fn long_condition(head: &[u8], n: usize, line: usize) -> book::Refusal
+    requires { ⌜ 3 ≤ length (now head) ⌝ }
+    ensures { λ r. ⌜ r ≡ longCondition line (be2 (now (head .entry)) 1) n ⌝ }
+{
+    let end = 3 + u16_at(head, 1) as usize;
+    if n < end {
+        return refusal(2, line, 0);
+    }
+    if n == end {
+        refusal(5, line, 0)
+    } else {
+        refusal(3, line, 0)
+    }
 }

@@ -1,4 +1,4 @@
-// The instrument: one text in, one report out. Every text of every length is answered, and no caller is asked to have looked first.
+// The instrument: one text in, one report line out for each of its conditions. Every text of every length is answered, and no caller is asked to have looked first.
 ghost use mathlib.Core.Path.{_≡_};
 ghost use Prim.Native.Nat.{_≤_, _<_};
 ghost use lib.ListN.{length};
@@ -9,9 +9,15 @@ ghost use Rattle.book.specs.Book.{judgementOf};
 ghost use Rattle.instrument.specs.Sent.{Sent, SentJudged, SentRead, OfReading};
 use book::Judgement;
 use book::Refusal;
+use frames::Condition;
+use frames::ConditionRead;
+use reading::Front;
 
 // 'The report is .. 209 characters.'
 const REPORT: usize = 209;
+
+// 'The library takes up to 180,000 characters.'
+const MOST_CHARACTERS: usize = 180_000;
 
 // 'On refusals 1 to 8 verdicts are 3 and figures 0.'
 fn no_judgement() -> Judgement
@@ -42,42 +48,133 @@ fn send(judgement: Judgement, report: &mut [u8]) -> u8
     0
 }
 
-// What is read is weighed, loaded and judged.
-fn judge_reading(read: reading::Read, table: book::Table, report: &mut [u8]) -> u8
+// What a condition says is weighed, loaded and judged.
+fn judge_condition(
+    ship: book::Ship,
+    condition: Condition,
+    table: book::Table,
+    report: &mut [u8],
+) -> u8
     requires { ⌜ reportLength ≤ length (now report) ⌝ }
-    requires { ⌜ OfReading read table ⌝ }
-    ensures { λ r. ⌜ SentRead read table (now (report .entry)) r (now (report .exit)) ⌝ }
+    requires { ⌜ OfReading ship condition table ⌝ }
+    ensures { λ r. ⌜ SentCondition ship condition table (now (report .entry)) r (now (report .exit)) ⌝ }
 {
-    let weighed = curve::loading::weigh(read.sums, table);
+    let weighed = curve::loading::weigh(condition.sums, table);
     let curve::loading::Weighed::Fine { w, kg } = weighed else {
         return refuse(weighed.fault(), report);
     };
-    let loaded = curve::table::loaded(read.ship, read.weather, table, w, kg);
+    let loaded = curve::table::loaded(ship, condition.weather, table, w, kg);
     send(criteria::judge(loaded), report)
 }
 
-// The number of document 01 (0 to 9). The report's 209 characters stand at the front of the buffer, or nothing is written where it has no room for them.
-pub fn judge(text: &[u8], report: &mut [u8]) -> u8
-    ensures { λ r. ⌜ r ≡ number (now (text .entry)) (now (report .entry)) ⌝ }
-    ensures { λ _. ⌜ now (report .exit) ≡ written (now (text .entry)) (now (report .entry)) ⌝ }
+// A condition line is refused for itself, or judged.
+fn judge_line(ship: book::Ship, read: ConditionRead, table: book::Table, report: &mut [u8]) -> u8
+    requires { ⌜ reportLength ≤ length (now report) ⌝ }
 {
-    if report.len() < REPORT {
-        return 9;
-    }
-    let read = reading::read_text(text);
-    let answer = read.answer;
-    let table = read.table;
-    let reading::Answer::Whole(whole) = answer else {
-        return refuse(answer.fault(), report);
+    let ConditionRead::Within(condition) = read else {
+        return refuse(read.fault(), report);
     };
-    judge_reading(whole, table, report)
+    judge_condition(ship, condition, table, report)
 }
 
-// `judge`, for C and Rust to call.
+// The first number that is not 0.
+fn first_number(so_far: u8, next: u8) -> u8 {
+    if so_far == 0 { next } else { so_far }
+}
+
+// 'One report line per condition, in order.'
+fn judge_conditions(text: &[u8], front: Front, table: book::Table, report: &mut [u8]) -> u8 {
+    let mut bytes = [0u8; 4099];
+    let mut rest = &text[front.at..];
+    let mut line = 2 + table.count;
+    let mut at = 0;
+    let mut number = 0;
+    while rest.len() != 0 {
+        let c = reading::read_condition(rest, line, &mut bytes);
+        let read = c.read;
+        let taken = c.taken;
+        let next = judge_line(front.ship, read, table, &mut report[at..at + REPORT]);
+        number = first_number(number, next);
+        rest = &rest[taken..];
+        line = line + 1;
+        at = at + REPORT;
+    }
+    number
+}
+
+// What is sent back: the number of document 01 (0 to 9), and how many bytes of the buffer are written.
+pub struct Sent {
+    pub number: u8,
+    pub length: usize,
+}
+
+// `judge` with a limit of one's own, where that is less than the library's.
+pub fn judge_within(text: &[u8], limit: usize, report: &mut [u8]) -> Sent {
+    if report.len() < REPORT {
+        return Sent {
+            number: 9,
+            length: 0,
+        };
+    }
+    let most = if limit < MOST_CHARACTERS {
+        limit
+    } else {
+        MOST_CHARACTERS
+    };
+    let read = reading::read_text(text, most);
+    let conditions = read.conditions;
+    if report.len() < REPORT * conditions {
+        return Sent {
+            number: 9,
+            length: 0,
+        };
+    }
+    let answer = read.answer;
+    let table = read.table;
+    let reading::Answer::Whole(front) = answer else {
+        return Sent {
+            number: refuse(answer.fault(), report),
+            length: REPORT,
+        };
+    };
+    Sent {
+        number: judge_conditions(text, front, table, report),
+        length: REPORT * conditions,
+    }
+}
+
+// The number of document 01 (0 to 9). The report lines, 209 characters each, stand at the front of the buffer, or nothing is written where it has no room for them.
+pub fn judge(text: &[u8], report: &mut [u8]) -> u8
+    ensures { λ r. ⌜ r ≡ number mostCharacters (now (text .entry)) (now (report .entry)) ⌝ }
+    ensures { λ _. ⌜ now (report .exit) ≡ written mostCharacters (now (text .entry)) (now (report .entry)) ⌝ }
+{
+    judge_within(text, MOST_CHARACTERS, report).number
+}
+
+// How many bytes of report a text asks room for.
+pub fn room(text: &[u8]) -> usize
+    ensures { λ r. ⌜ r ≡ room mostCharacters (now (text .entry)) ⌝ }
+{
+    let conditions = reading::read_text(text, MOST_CHARACTERS).conditions;
+    if conditions == 0 {
+        REPORT
+    } else {
+        REPORT * conditions
+    }
+}
+
+// `judge` and `room`, for C and Rust to call.
 #[no_mangle]
 pub extern "C" fn rostblume_judge(text: &[u8], report: &mut [u8]) -> u8
-    ensures { λ r. ⌜ r ≡ number (now (text .entry)) (now (report .entry)) ⌝ }
-    ensures { λ _. ⌜ now (report .exit) ≡ written (now (text .entry)) (now (report .entry)) ⌝ }
+    ensures { λ r. ⌜ r ≡ number mostCharacters (now (text .entry)) (now (report .entry)) ⌝ }
+    ensures { λ _. ⌜ now (report .exit) ≡ written mostCharacters (now (text .entry)) (now (report .entry)) ⌝ }
 {
     judge(text, report)
+}
+
+#[no_mangle]
+pub extern "C" fn rostblume_room(text: &[u8]) -> usize
+    ensures { λ r. ⌜ r ≡ room mostCharacters (now (text .entry)) ⌝ }
+{
+    room(text)
 }

@@ -1,26 +1,46 @@
-// A whole text: line after line into one buffer, and each frame as it comes. Every character is looked at once, an LF and the one behind it twice.
+// A whole text: line after line is checked and counted, the ship and the rows are read, and each condition line is left for itself.
+// Every character is looked at once, an LF and the one behind it twice; those of a condition line once more when it is read.
 ghost use mathlib.Core.Path.{_≡_};
 ghost use mathlib.Core.List.{[]};
-ghost use Prim.Native.Nat.{_≤_};
-ghost use Rattle.rules.specs.Walk.{header, read};
+ghost use Prim.Native.Nat.{_≤_, _<_};
+ghost use Rattle.rules.specs.Layout.{mostRows};
+ghost use Rattle.rules.specs.Walk.{shipFrame};
+ghost use Rattle.rules.specs.Booklet.{countedLines, isCondition};
 ghost use Rattle.book.specs.Book.{tableOf};
-ghost use Rattle.cursor.specs.BlockParts.{headOf};
-ghost use Rattle.reading.specs.TextAnswers.{told, refusedRead, answerFault};
-ghost use Rattle.reading.specs.Moved.{rowless, afterShip, afterFound, afterWhole, moved, finished};
+ghost use Rattle.blocks.specs.BlockAnswers.{shipRead};
+ghost use Rattle.text.specs.Line.{decoded, over};
+ghost use Rattle.reading.specs.TextAnswers.{told, refusedRead, answerFault, noLine, conditionLine};
+ghost use Rattle.reading.specs.Moved.{Cut, OfLine, rowless, afterShip, afterRow, movedRows, movedConditions, moved, tallied, finished};
 use blocks::refusal;
+use blocks::row::RowAnswer;
+use blocks::row::RowRead;
 use blocks::ship::ShipRead;
 use cursor::Head;
-use frames::Found;
+use frames::ConditionRead;
+use numbers::both;
 use text::LineRead;
 
-// 'At most 12,000 characters', so no line has more than 6,000 bytes.
-const MOST_CHARACTERS: usize = 12_000;
+// 'Up to 24 condition lines', behind '2 to 40 A2'.
+const MOST_CONDITIONS: usize = 24;
 
-// What a text says of the ship and of its condition.
-pub struct Read {
+const FEWEST_ROWS: usize = 2;
+
+const MOST_ROWS: usize = 40;
+
+// The bytes of a row, of which no ship and no row has more; those of the longest condition that is not refused for its length.
+pub const ROW_BYTES: usize = 37;
+
+pub const CONDITION_BYTES: usize = 4_099;
+
+// The characters of the ship's line and of a row's, the LF among them.
+const SHIP_LINE: usize = 33;
+
+const ROW_LINE: usize = 75;
+
+// What a text says before its conditions: the ship, and where the first condition line begins.
+pub struct Front {
     pub ship: book::Ship,
-    pub weather: book::Weather,
-    pub sums: book::Sums,
+    pub at: usize,
 }
 
 // How far a text has been read.
@@ -29,21 +49,27 @@ pub enum State {
     Awaited,
     // The ship is read, and rows, of which the last has this W.
     Rows { ship: book::Ship, last: u64 },
-    // The condition is read.
-    Whole(Read),
-    // The first fault is met. What follows can only be no line.
+    // A condition line has come in its place.
+    Conditions(book::Ship),
+    // The first fault for the whole text is met. What follows can only be no line, or a 25th condition line.
     Refused(book::Refusal),
 }
 
-// A frame moves the state on, and may add a row; the row is blank where it adds none.
+// A line moves the state on, and may add a row; the row is blank where it adds none.
 pub struct Moved {
     pub state: State,
     pub adds: bool,
     pub row: book::Row,
 }
 
+// The condition lines so far, wherever they stand, and the number of the 25th, 0 before it has come.
+pub struct Tally {
+    pub conditions: usize,
+    pub over: usize,
+}
+
 pub enum Answer {
-    Whole(Read),
+    Whole(Front),
     Refused(book::Refusal),
 }
 
@@ -59,10 +85,17 @@ impl Answer {
     }
 }
 
-// What was read, and the table beside it, which is blank on a refusal.
+// What was read; the table beside it, blank on a refusal; and how many condition lines there are, none where 1 or the 25th refuses the text.
 pub struct TextRead {
     pub answer: Answer,
     pub table: book::Table,
+    pub conditions: usize,
+}
+
+// A condition line, and how many characters it takes with its LF; none where there is no line.
+pub struct ConditionLine {
+    pub read: ConditionRead,
+    pub taken: usize,
 }
 
 fn blank_table() -> book::Table
@@ -74,16 +107,27 @@ fn blank_table() -> book::Table
     }
 }
 
-fn refused(r: book::Refusal) -> TextRead
-    ensures { λ t. ⌜ t ≡ refusedRead r ⌝ }
+fn refused(r: book::Refusal, conditions: usize) -> TextRead
+    ensures { λ t. ⌜ t ≡ refusedRead r conditions ⌝ }
 {
     TextRead {
         answer: Answer::Refused(r),
         table: blank_table(),
+        conditions,
     }
 }
 
-// ---- how a frame moves the state
+// ---- how a line moves the state: `front` holds its first bytes, of `n`
+// 'A condition line is one that begins with A3.'
+fn begins_a3(front: &[u8]) -> bool
+    ensures { λ r. ⌜ r ≡ isCondition (now (front .entry)) ⌝ }
+{
+    if front.len() == 0 {
+        return false;
+    }
+    front[0] == 0xA3
+}
+
 fn rowless(state: State) -> Moved
     ensures { λ r. ⌜ r ≡ rowless state ⌝ }
 {
@@ -103,107 +147,154 @@ fn after_ship(read: ShipRead) -> State
     State::Rows { ship, last: 0 }
 }
 
-fn after_found(ship: book::Ship, row: book::Row, found: Found) -> Moved
-    ensures { λ r. ⌜ r ≡ afterFound ship row found ⌝ }
+fn after_row(ship: book::Ship, read: RowRead) -> Moved
+    ensures { λ r. ⌜ r ≡ afterRow ship read ⌝ }
 {
-    match found {
-        Found::Row => Moved {
-            state: State::Rows {
-                ship,
-                last: row.mass,
-            },
-            adds: true,
-            row,
+    let answer = read.answer;
+    let RowAnswer::Within = answer else {
+        return rowless(State::Refused(answer.fault()));
+    };
+    let row = read.row;
+    Moved {
+        state: State::Rows {
+            ship,
+            last: row.mass,
         },
-        Found::Condition(c) => {
-            let weather = c.weather;
-            let sums = c.sums;
-            Moved {
-                state: State::Whole(Read {
-                    ship,
-                    weather,
-                    sums,
-                }),
-                adds: false,
-                row,
-            }
-        }
-        Found::Refused(r) => Moved {
-            state: State::Refused(r),
-            adds: false,
-            row,
-        },
+        adds: true,
+        row,
     }
 }
 
-// 4: 'a frame after A3', behind its own 2.
-fn after_whole(frame: &[u8], line: usize) -> State
-    ensures { λ r. ⌜ r ≡ afterWhole line (headOf (header line 0 (now (frame .entry)))) ⌝ }
+// Where the ship is due.
+fn ship_line(front: &[u8], n: usize, line: usize) -> State
+    requires { ⌜ Cut (now front) n ⌝ }
+    ensures { λ r. ⌜ OfLine (now (front .entry)) n (λ l. r ≡ afterShip (shipRead (shipFrame line l))) ⌝ }
 {
-    let head = cursor::begin(frame, line, 0);
+    if front.len() < n {
+        return State::Refused(frames::long_frame(front, n, line, front[0] == 0xA1));
+    }
+    after_ship(frames::ship_frame(front, line))
+}
+
+// Where a row is due, or from the second row on a condition line.
+fn row_line(ship: book::Ship, last: u64, front: &[u8], n: usize, line: usize, rows: usize) -> Moved
+    requires { ⌜ Cut (now front) n ⌝ }
+    ensures { λ r. ⌜ OfLine (now (front .entry)) n (λ l. r ≡ movedRows ship last rows line l) ⌝ }
+{
+    if both(begins_a3(front), FEWEST_ROWS <= rows) {
+        return rowless(State::Conditions(ship));
+    }
+    if front.len() < n {
+        let due = both(front[0] == 0xA2, rows < MOST_ROWS);
+        return rowless(State::Refused(frames::long_frame(front, n, line, due)));
+    }
+    after_row(ship, frames::row_frame(front, line, rows, last))
+}
+
+// Behind a condition line only others: 2, 4.
+fn condition_line(ship: book::Ship, front: &[u8], n: usize, line: usize) -> State
+    requires { ⌜ Cut (now front) n ⌝ }
+    ensures { λ r. ⌜ OfLine (now (front .entry)) n (λ l. r ≡ movedConditions ship line l) ⌝ }
+{
+    if begins_a3(front) {
+        return State::Conditions(ship);
+    }
+    if front.len() < n {
+        return State::Refused(frames::long_frame(front, n, line, false));
+    }
+    let head = cursor::begin(front, line, 0);
     let Head::Block { tag: _, len: _ } = head else {
         return State::Refused(head.fault());
     };
     State::Refused(refusal(4, line, 0))
 }
 
-// A frame in this line, with so many rows before it.
-fn moves(state: State, frame: &[u8], line: usize, rows: usize) -> Moved
-    ensures { λ r. ⌜ r ≡ moved state rows line (now (frame .entry)) ⌝ }
+// A line with this number, with so many rows before it.
+fn moves(state: State, front: &[u8], n: usize, line: usize, rows: usize) -> Moved
+    requires { ⌜ Cut (now front) n ⌝ }
+    ensures { λ r. ⌜ OfLine (now (front .entry)) n (λ l. r ≡ moved state rows line l) ⌝ }
 {
     match state {
-        State::Awaited => rowless(after_ship(frames::ship_frame(frame, line))),
-        State::Rows { ship, last } => {
-            let f = frames::frame_at(frame, line, rows, last);
-            let row = f.row;
-            let found = f.found;
-            after_found(ship, row, found)
-        }
-        State::Whole(_) => rowless(after_whole(frame, line)),
+        State::Awaited => rowless(ship_line(front, n, line)),
+        State::Rows { ship, last } => row_line(ship, last, front, n, line, rows),
+        State::Conditions(ship) => rowless(condition_line(ship, front, n, line)),
         State::Refused(_) => rowless(state),
     }
 }
 
-// What it comes to where the text ends, before this line.
-fn finish(state: State, table: book::Table, line: usize) -> TextRead
-    requires { ⌜ 1 ≤ line ⌝ }
-    ensures { λ r. ⌜ r ≡ finished state table line ⌝ }
+// One line more: 'a 25th condition line gives 5 there'.
+fn tallied(tally: Tally, front: &[u8], line: usize) -> Tally
+    requires { ⌜ tally .conditions < line ⌝ }
+    ensures { λ r. ⌜ r ≡ tallied tally line (now (front .entry)) ⌝ }
 {
-    match state {
-        State::Awaited => refused(refusal(5, line - 1, 0)),
-        State::Rows { ship: _, last: _ } => refused(refusal(5, line - 1, 0)),
-        State::Whole(read) => TextRead {
-            answer: Answer::Whole(read),
-            table,
-        },
-        State::Refused(r) => refused(r),
+    if !begins_a3(front) {
+        return tally;
+    }
+    let over = if tally.conditions == MOST_CONDITIONS {
+        line
+    } else {
+        tally.over
+    };
+    Tally {
+        conditions: tally.conditions + 1,
+        over,
     }
 }
 
-// A text: what it says, or the refusal. 1 goes before every refusal of a block, so that lines are read to the end.
-pub fn read_text(text: &[u8]) -> TextRead
-    ensures { λ r. ⌜ r ≡ told (read (now (text .entry))) ⌝ }
+// What it comes to where the text ends, before this line.
+fn finish(state: State, table: book::Table, line: usize, tally: Tally) -> TextRead
+    requires { ⌜ (1 ≤ line) × (table .count ≤ mostRows) ⌝ }
+    ensures { λ r. ⌜ r ≡ finished state table line tally ⌝ }
 {
-    if MOST_CHARACTERS < text.len() {
-        return refused(refusal(1, 0, 0));
+    if tally.over != 0 {
+        return refused(refusal(5, tally.over, 0), 0);
     }
-    let mut bytes = [0u8; 6000];
+    let conditions = tally.conditions;
+    match state {
+        State::Awaited => refused(refusal(5, line - 1, 0), conditions),
+        State::Rows { ship: _, last: _ } => refused(refusal(5, line - 1, 0), conditions),
+        State::Conditions(ship) => TextRead {
+            answer: Answer::Whole(Front {
+                ship,
+                at: SHIP_LINE + ROW_LINE * table.count,
+            }),
+            table,
+            conditions,
+        },
+        State::Refused(r) => refused(r, conditions),
+    }
+}
+
+// A text of at most so many characters: what it says as a whole, or the refusal. 1 and the 25th condition line go before every refusal of a block, so that lines are read to the end.
+pub fn read_text(text: &[u8], most: usize) -> TextRead
+    ensures { λ r. ⌜ r ≡ told (countedLines most (now (text .entry))) ⌝ }
+{
+    if most < text.len() {
+        return refused(refusal(1, 0, 0), 0);
+    }
+    let mut bytes = [0u8; 37];
     let mut rest = text;
     let mut line: usize = 1;
+    let mut tally = Tally {
+        conditions: 0,
+        over: 0,
+    };
     let mut state = State::Awaited;
     let mut table = blank_table();
     loop {
         let l = text::line_at(rest, &mut bytes);
         match l {
             LineRead::End => {
-                return finish(state, table, line);
+                return finish(state, table, line, tally);
             }
             LineRead::Not => {
-                return refused(refusal(1, line, 0));
+                return refused(refusal(1, line, 0), 0);
             }
             LineRead::Line(n) => {
+                let held = if n < ROW_BYTES { n } else { ROW_BYTES };
                 let rows = table.count;
-                let m = moves(state, &bytes[..n], line, rows);
+                let m = moves(state, &bytes[..held], n, line, rows);
+                tally = tallied(tally, &bytes[..held], line);
                 rest = &rest[2 * n + 1..];
                 line = line + 1;
                 state = m.state;
@@ -214,5 +305,37 @@ pub fn read_text(text: &[u8]) -> TextRead
                 }
             }
         }
+    }
+}
+
+// ---- a condition line
+fn no_line() -> ConditionLine
+    ensures { λ r. ⌜ r ≡ noLine ⌝ }
+{
+    ConditionLine {
+        read: ConditionRead::Refused(book::NO_REFUSAL),
+        taken: 0,
+    }
+}
+
+// The condition line at the front of a text, its first bytes to the front of a buffer. 'A3 over 4,096' needs no more of it than its head.
+pub fn read_condition(text: &[u8], line: usize, bytes: &mut [u8; 4099]) -> ConditionLine
+    ensures { λ r. ⌜ (r ≡ conditionLine line (now (text .entry))) × (now (bytes .exit) ≡ over (decoded (now (text .entry))) (now (bytes .entry))) ⌝ }
+{
+    let l = text::line_at(text, bytes);
+    let LineRead::Line(n) = l else {
+        return no_line();
+    };
+    let taken = 2 * n + 1;
+    if CONDITION_BYTES < n {
+        let r = frames::long_condition(bytes, n, line);
+        return ConditionLine {
+            read: ConditionRead::Refused(r),
+            taken,
+        };
+    }
+    ConditionLine {
+        read: frames::condition_frame(&bytes[..n], line),
+        taken,
     }
 }

@@ -1,13 +1,20 @@
-// A stream of texts on standard input: for each text four bytes with its length, the highest first, and then that many bytes.
+// A stream of texts on standard input: for each text three times four bytes, the highest first, with its length, the limit of characters and
+// the bytes of room in the buffer; and then the text.
 ghost use lib.ListN.{length};
 ghost use Rattle.stream.specs.Stream.{Fits};
 
+// A text of `len` bytes stands at the front of the buffer.
+pub struct Text {
+    pub len: usize,
+    pub limit: usize,
+    pub room: usize,
+}
+
 pub enum Next {
-    // A text of that many bytes stands at the front of the buffer.
-    Text(usize),
+    Text(Text),
     // The stream has ended.
     End,
-    // It has ended within a length or a text, or a text is longer than the buffer.
+    // It has ended within a head or a text, or a text is longer than the buffer.
     Broken,
 }
 
@@ -15,21 +22,25 @@ pub enum Next {
 pub fn next_text(buf: &mut [u8]) -> Next
     ensures { λ r. ⌜ Fits r (length (now (buf .exit))) ⌝ }
 {
-    let mut head = [0u8; 4];
+    let mut head = [0u8; 12];
     let got = io::read_full(0, &mut head);
     if got == 0 {
         return Next::End;
     }
-    if got < 4 {
+    if got < 12 {
         return Next::Broken;
     }
-    let n = numbers::u32_at(&head, 0) as usize;
-    if buf.len() < n {
+    let len = numbers::u32_at(&head, 0) as usize;
+    if buf.len() < len {
         return Next::Broken;
     }
-    let more = io::read_full(0, &mut buf[..n]);
-    if more < n {
+    let more = io::read_full(0, &mut buf[..len]);
+    if more < len {
         return Next::Broken;
     }
-    Next::Text(n)
+    Next::Text(Text {
+        len,
+        limit: numbers::u32_at(&head, 4) as usize,
+        room: numbers::u32_at(&head, 8) as usize,
+    })
 }

@@ -43,9 +43,9 @@ decoded [] = []
 decoded (a ∷ []) = []
 decoded (a ∷ b ∷ s) = before (pairOf a b) (decoded s)
 
--- Bytes at the front of a buffer, whose others stay as they are.
+-- Bytes at the front of a buffer, as many as it holds; its others stay as they are.
 unfoldable pub over : List ℕ → List ℕ → List ℕ
-over b out = b ++ drop (length b) out
+over b out = take (length out) b ++ drop (length b) out
 
 -- What stands after n bytes: one LF, or these were no line.
 unfoldable pub ended : ℕ → List ℕ → LineRead
@@ -59,12 +59,14 @@ unfoldable pub lineOf : List ℕ → LineRead
 lineOf t = ended (length (decoded t)) (drop (2 * length (decoded t)) t)
 
 -- ---- what an answer says in the document's terms
--- The first n bytes of the buffer are the first line's, and the other lines stand after its LF.
+-- The first line has n bytes, of which the buffer holds the first, and the other lines stand after its LF.
 pub record Leads (t out : List ℕ) (n : ℕ) : Type 0 where
   pub some : 0 < n
-  pub room : n ≤ length out
   pub within : 2 * n < length t
-  pub lines : (ln : ℕ) → linesFrom ln t ≡ (linesFrom (ln + 1) (drop (2 * n + 1) t) >>= λ r. got (take n out ∷ r))
+  pub line : List ℕ
+  pub long : length line ≡ n
+  pub held : (m : ℕ) → m ≤ n → m ≤ length out → take m out ≡ take m line
+  pub lines : (ln : ℕ) → linesFrom ln t ≡ (linesFrom (ln + 1) (drop (2 * n + 1) t) >>= λ r. got (line ∷ r))
 
 abbrev pub LineIs : List ℕ → List ℕ → LineRead → Type 0
 LineIs t out line.End = t ≡ []

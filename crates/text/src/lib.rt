@@ -1,15 +1,10 @@
-// Characters: the line at the front of a text, decoded into a buffer pair by pair, and then what ends it.
+// Characters: the line at the front of a text, pair by pair, and then what ends it. As many of its bytes are kept as the buffer holds; the
+// others are only checked and counted.
 ghost use mathlib.Core.Path.{_≡_};
-ghost use Prim.Native.Nat.{_*_, _≤_};
-ghost use lib.ListN.{length};
-ghost use Rattle.text.specs.Line.{digitOf, pairOf, decoded, over, ended, lineOf};
-use numbers::fits;
-use numbers::wide;
-
-pub enum Digit {
-    Value(u8),
-    Not,
-}
+ghost use Prim.Native.Nat.{_<_};
+ghost use lib.ListN.{length, take, replicate};
+ghost use Rattle.rules.specs.Text.{digit};
+ghost use Rattle.text.specs.Line.{digitsUpTo, Digits, pairOf, decoded, over, ended, lineOf};
 
 pub enum Pair {
     Byte(u8),
@@ -25,44 +20,71 @@ pub enum LineRead {
     End,
 }
 
-// The value of a digit 0-9 A-F: '0' to '9' are 48 to 57, 'A' to 'F' 65 to 70.
-fn digit_of(c: u8) -> Digit
-    ensures { λ r. ⌜ r ≡ digitOf c ⌝ }
+// The character of a digit: '0' to '9' are 48 to 57, 'A' to 'F' 65 to 70.
+fn character(n: usize) -> usize
+    requires { ⌜ n < 16 ⌝ }
+    ensures { λ r. ⌜ r ≡ digit n ⌝ }
 {
-    let code = wide(c);
-    if fits(code, 48, 57) {
-        return Digit::Value(c - b'0');
-    }
-    if fits(code, 65, 70) {
-        return Digit::Value(c - b'A' + 10);
-    }
-    Digit::Not
+    if n < 10 { 48 + n } else { 55 + n }
 }
 
-// Two digits to a byte.
-fn pair_of(a: u8, b: u8) -> Pair
+// The table of digits: the value of each by its character, in a table of 16s, which is the value of no digit.
+fn fill_digits(values: &mut [u8])
+    requires { ⌜ now values ≡ replicate 256 16 ⌝ }
+    ensures { λ _. ⌜ now (values .exit) ≡ digitsUpTo 16 ⌝ }
+{
+    let mut n = 0;
+    while n < 16 {
+        values[character(n)] = n as u8;
+        n = n + 1;
+    }
+}
+
+// Two digits to a byte, by the table of digits.
+fn pair_of(digits: &[u8], a: u8, b: u8) -> Pair
+    requires { ⌜ Digits (now digits) ⌝ }
     ensures { λ r. ⌜ r ≡ pairOf a b ⌝ }
 {
-    let Digit::Value(h) = digit_of(a) else {
+    let h = digits[a as usize];
+    if 15 < h {
         return Pair::Not;
-    };
-    let Digit::Value(l) = digit_of(b) else {
+    }
+    let l = digits[b as usize];
+    if 15 < l {
         return Pair::Not;
-    };
+    }
     Pair::Byte(16 * h + l)
 }
 
-// The bytes of the pairs at the front of a text, up to the first pair that is none; how many they are.
-fn decode(text: &[u8], out: &mut [u8]) -> usize
-    requires { ⌜ length (now text) ≤ 2 * length (now out) ⌝ }
-    ensures { λ r. ⌜ (r ≡ length (decoded (now (text .entry)))) × (now (out .exit) ≡ over (decoded (now (text .entry))) (now (out .entry))) ⌝ }
+// The bytes of the pairs at the front of a text, up to the first pair that is none or to the end of the buffer; how many they are.
+fn decode(digits: &[u8], text: &[u8], out: &mut [u8]) -> usize
+    requires { ⌜ Digits (now digits) ⌝ }
+    ensures { λ r. ⌜ (r ≡ length (take (length (now (out .entry))) (decoded (now (text .entry))))) × (now (out .exit) ≡ over (decoded (now (text .entry))) (now (out .entry))) ⌝ }
 {
+    let whole = text.len() / 2;
+    let most = if out.len() < whole { out.len() } else { whole };
     let mut n = 0;
-    while 2 * n + 1 < text.len() {
-        let Pair::Byte(x) = pair_of(text[2 * n], text[2 * n + 1]) else {
+    while n < most {
+        let Pair::Byte(x) = pair_of(digits, text[2 * n], text[2 * n + 1]) else {
             return n;
         };
         out[n] = x;
+        n = n + 1;
+    }
+    n
+}
+
+// How many pairs stand at the front of a text.
+fn pairs(digits: &[u8], text: &[u8]) -> usize
+    requires { ⌜ Digits (now digits) ⌝ }
+    ensures { λ r. ⌜ r ≡ length (decoded (now (text .entry))) ⌝ }
+{
+    let whole = text.len() / 2;
+    let mut n = 0;
+    while n < whole {
+        let Pair::Byte(_) = pair_of(digits, text[2 * n], text[2 * n + 1]) else {
+            return n;
+        };
         n = n + 1;
     }
     n
@@ -85,11 +107,17 @@ fn ends(rest: &[u8], n: usize) -> LineRead
     }
 }
 
-// The line at the front of a text, its bytes to the front of a buffer.
-pub fn line_at(text: &[u8], out: &mut [u8; 6000]) -> LineRead
-    requires { ⌜ length (now text) ≤ 12000 ⌝ }
+// The line at the front of a text, its first bytes to the front of a buffer.
+pub fn line_at(text: &[u8], out: &mut [u8]) -> LineRead
     ensures { λ r. ⌜ (r ≡ lineOf (now (text .entry))) × (now (out .exit) ≡ over (decoded (now (text .entry))) (now (out .entry))) ⌝ }
 {
-    let n = decode(text, out);
+    let mut digits = [16u8; 256];
+    fill_digits(&mut digits);
+    let held = decode(&digits, text, out);
+    let n = if held < out.len() {
+        held
+    } else {
+        held + pairs(&digits, &text[2 * held..])
+    };
     ends(&text[2 * n..], n)
 }
