@@ -11,6 +11,7 @@ use book::Judgement;
 use book::Refusal;
 use frames::Condition;
 use frames::ConditionRead;
+use numbers::least;
 use reading::Front;
 
 // 'The report is .. 209 characters.'
@@ -116,11 +117,7 @@ pub fn judge_within(text: &[u8], limit: usize, report: &mut [u8]) -> Sent {
             length: 0,
         };
     }
-    let most = if limit < MOST_CHARACTERS {
-        limit
-    } else {
-        MOST_CHARACTERS
-    };
+    let most = least(limit, MOST_CHARACTERS);
     let read = reading::read_text(text, most);
     let conditions = read.conditions;
     if report.len() < REPORT * conditions {

@@ -1,7 +1,7 @@
-// Numbers in bytes, 'big-endian and unsigned', and tests joined: what the reading of characters, of blocks and of a stream shares.
+// Numbers in bytes, 'big-endian and unsigned', the lesser of two, and tests joined: what the reading of characters, of blocks and of a stream shares.
 ghost use mathlib.Core.Path.{_≡_};
 ghost use mathlib.Core.Bool.{_&&_, _||_};
-ghost use Prim.Native.Nat.{_+_, _<_};
+ghost use Prim.Native.Nat.{_+_, _<_, min};
 ghost use lib.ListN.{length};
 ghost use lib.Dec.{leb};
 ghost use Rattle.rules.specs.Parts.{be2, be4};
@@ -30,6 +30,13 @@ pub fn u32_at(s: &[u8], at: usize) -> u64
     let high = u16_at(s, at);
     let low = u16_at(s, at + 2);
     high * 65536 + low
+}
+
+// The lesser of two.
+pub fn least(a: usize, b: usize) -> usize
+    ensures { λ r. ⌜ r ≡ min a b ⌝ }
+{
+    if a < b { a } else { b }
 }
 
 // ---- tests

@@ -18,6 +18,7 @@ use blocks::ship::ShipRead;
 use cursor::Head;
 use frames::ConditionRead;
 use numbers::both;
+use numbers::least;
 use text::LineRead;
 
 // 'Up to 24 condition lines', behind '2 to 40 A2'.
@@ -291,7 +292,7 @@ pub fn read_text(text: &[u8], most: usize) -> TextRead
                 return refused(refusal(1, line, 0), 0);
             }
             LineRead::Line(n) => {
-                let held = if n < ROW_BYTES { n } else { ROW_BYTES };
+                let held = least(n, ROW_BYTES);
                 let rows = table.count;
                 let m = moves(state, &bytes[..held], n, line, rows);
                 tally = tallied(tally, &bytes[..held], line);

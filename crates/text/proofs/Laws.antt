@@ -5,8 +5,8 @@ use mathlib.Core.List.{List, [], _∷_}
 use Prim.Native.Nat.{ℕ, suc, _+_, _*_, _<_}
 use native.Mathlib.Omega.{arith}
 use lib.Dec.{eqb}
-use lib.ListN.{length, drop, length-append, length-drop}
-use lib.Seq.{drop-drop, take-append-seam}
+use lib.ListN.{length, drop, length-drop}
+use lib.Seq.{drop-drop}
 use Rattle.rules.specs.Numbers.{full}
 use Rattle.rules.specs.Text.{LF}
 use Rattle.rules.specs.Outcome.{refused, got, test, _>>=_, _>>_}
@@ -18,7 +18,7 @@ use Rattle.text.specs.declared.Pair.the-variants as pair
 use Rattle.text.specs.declared.LineRead.{LineRead}
 use Rattle.text.specs.declared.LineRead.the-variants as line
 use Rattle.text.proofs.Digits.{unhex-says, pair-no-feed}
-use Rattle.text.proofs.Decoded.{decoded-half}
+use Rattle.text.proofs.Decoded.{decoded-half, over-length, over-held}
 
 -- ---- how a text goes on after its pairs: p its pieces, d the bytes of the pairs
 After : ℕ → Pieces → List ℕ → List ℕ → Bool → Type 0
@@ -97,12 +97,14 @@ module _ (t : List ℕ) where
 
   some-line : (out : List ℕ) (x : ℕ) (d s : List ℕ) → s ≡ drop (2 * length (x ∷ d) + 1) t → 2 * length (x ∷ d) < length t → (f : Bool) → ((ln : ℕ) → After ln (split t) (x ∷ d) s f)
       → LineIs t (over (x ∷ d) out) (cond f (line.Line (length (x ∷ d))) line.Not)
-  unfolding linesFrom over After
+  unfolding linesFrom After
   some-line out x d s e l true h = record {
     some = omega arith;
-    room = omega (arith, length-append (x ∷ d) (drop (length (x ∷ d)) out));
     within = l;
-    lines = λ ln. rw (h ln .0) (first-line ln (split t .0) s (x ∷ d) (h ln .1) ∙ test-got _ _ _ _ refl ∙ rw (← e, take-append-seam (x ∷ d) (drop (length (x ∷ d)) out)));
+    line = x ∷ d;
+    long = refl;
+    held = λ m a b. over-held m (x ∷ d) out a (rw (over-length (x ∷ d) out) at b);
+    lines = λ ln. rw (h ln .0) (first-line ln (split t .0) s (x ∷ d) (h ln .1) ∙ test-got _ _ _ _ refl ∙ rw (← e));
   }
   some-line out x d s e l false h = λ ln. refused-line ln (split t .0) (split t .1) (h ln)
 

@@ -3,32 +3,40 @@ use mathlib.Core.Path.{_≡_}
 use mathlib.Core.Bool.{cond}
 use mathlib.Core.List.{List, [], _∷_, _++_}
 use Prim.Native.Nat.{ℕ, zero, suc, _+_, _*_, _≤_, _<_}
-use lib.Dec.{eqb}
-use lib.ListN.{length, take, drop}
-use Rattle.rules.specs.Text.{LF}
+use lib.Dec.{eqb, ltb}
+use lib.ListN.{length, take, drop, getD, set, replicate}
+use Rattle.rules.specs.Text.{LF, digit}
 use Rattle.rules.specs.Outcome.{Ans, refused, got, _>>=_}
 use Rattle.rules.specs.Walk.{nibble, linesFrom}
-use Rattle.text.specs.declared.Digit.{Digit}
-use Rattle.text.specs.declared.Digit.the-variants as digit
 use Rattle.text.specs.declared.Pair.{Pair}
 use Rattle.text.specs.declared.Pair.the-variants as pair
 use Rattle.text.specs.declared.LineRead.{LineRead}
 use Rattle.text.specs.declared.LineRead.the-variants as line
 
-abbrev pub valueOf : Ans ℕ → Digit
-valueOf (refused n l o) = digit.Not
-valueOf (got x) = digit.Value x
+-- ---- digits
+-- The value of a character: what `nibble` says in any line, and 16 where it is no digit.
+abbrev pub valueOf : Ans ℕ → ℕ
+valueOf (refused n l o) = 16
+valueOf (got x) = x
 
--- The value of a digit: what `nibble` says in any line.
-unfoldable pub digitOf : ℕ → Digit
+unfoldable pub digitOf : ℕ → ℕ
 digitOf c = valueOf (nibble 0 c)
 
-abbrev pub byteOf : Digit → Digit → Pair
-byteOf digit.Not l = pair.Not
-byteOf (digit.Value h) digit.Not = pair.Not
-byteOf (digit.Value h) (digit.Value l) = pair.Byte (16 * h + l)
+-- The table of digits, when the first n of them stand in it.
+unfoldable pub digitsUpTo : ℕ → List ℕ
+digitsUpTo zero = replicate 256 16
+digitsUpTo (suc n) = set (digitsUpTo n) (digit n) n
 
+-- A table of digits has the value of each character.
+pub record Digits (d : List ℕ) : Type 0 where
+  pub all : length d ≡ 256
+  pub each : (c : ℕ) → c < 256 → getD d c 0 ≡ digitOf c
+
+-- ---- pairs
 -- Two digits to a byte.
+abbrev pub byteOf : ℕ → ℕ → Pair
+byteOf h l = cond (ltb 15 h) pair.Not (cond (ltb 15 l) pair.Not (pair.Byte (16 * h + l)))
+
 unfoldable pub pairOf : ℕ → ℕ → Pair
 pairOf a b = byteOf (digitOf a) (digitOf b)
 
@@ -45,8 +53,11 @@ decoded (a ∷ b ∷ s) = before (pairOf a b) (decoded s)
 
 -- Bytes at the front of a buffer, as many as it holds; its others stay as they are.
 unfoldable pub over : List ℕ → List ℕ → List ℕ
-over b out = take (length out) b ++ drop (length b) out
+over [] out = out
+over (x ∷ b) [] = []
+over (x ∷ b) (o ∷ out) = x ∷ over b out
 
+-- ---- lines
 -- What stands after n bytes: one LF, or these were no line.
 unfoldable pub ended : ℕ → List ℕ → LineRead
 ended zero [] = line.End

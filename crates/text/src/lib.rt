@@ -5,6 +5,7 @@ ghost use Prim.Native.Nat.{_<_};
 ghost use lib.ListN.{length, take, replicate};
 ghost use Rattle.rules.specs.Text.{digit};
 ghost use Rattle.text.specs.Line.{digitsUpTo, Digits, pairOf, decoded, over, ended, lineOf};
+use numbers::least;
 
 pub enum Pair {
     Byte(u8),
@@ -61,8 +62,7 @@ fn decode(digits: &[u8], text: &[u8], out: &mut [u8]) -> usize
     requires { ⌜ Digits (now digits) ⌝ }
     ensures { λ r. ⌜ (r ≡ length (take (length (now (out .entry))) (decoded (now (text .entry))))) × (now (out .exit) ≡ over (decoded (now (text .entry))) (now (out .entry))) ⌝ }
 {
-    let whole = text.len() / 2;
-    let most = if out.len() < whole { out.len() } else { whole };
+    let most = least(out.len(), text.len() / 2);
     let mut n = 0;
     while n < most {
         let Pair::Byte(x) = pair_of(digits, text[2 * n], text[2 * n + 1]) else {
@@ -90,6 +90,17 @@ fn pairs(digits: &[u8], text: &[u8]) -> usize
     n
 }
 
+// How many stand there in all, where the first are looked at: as many as a buffer had room for, if there are so many.
+fn all_pairs(digits: &[u8], text: &[u8], first: usize, room: usize) -> usize
+    requires { ⌜ Digits (now digits) × (first ≡ length (take room (decoded (now text)))) ⌝ }
+    ensures { λ r. ⌜ r ≡ length (decoded (now (text .entry))) ⌝ }
+{
+    if first < room {
+        return first;
+    }
+    first + pairs(digits, &text[2 * first..])
+}
+
 // What stands after n bytes: one LF, or these were no line.
 fn ends(rest: &[u8], n: usize) -> LineRead
     ensures { λ r. ⌜ r ≡ ended n (now (rest .entry)) ⌝ }
@@ -113,11 +124,7 @@ pub fn line_at(text: &[u8], out: &mut [u8]) -> LineRead
 {
     let mut digits = [16u8; 256];
     fill_digits(&mut digits);
-    let held = decode(&digits, text, out);
-    let n = if held < out.len() {
-        held
-    } else {
-        held + pairs(&digits, &text[2 * held..])
-    };
+    let first = decode(&digits, text, out);
+    let n = all_pairs(&digits, text, first, out.len());
     ends(&text[2 * n..], n)
 }

@@ -1,27 +1,23 @@
 -- `decode` meets its contract: the pairs before n are decoded, the others are still to come.
-use Prim.Native.Nat.{_-_}
 use borrow.Author.Needs.{needs}
-use lib.ListN.{length}
+use Prim.Native.Nat.{_-_, _≤_}
 use mathlib.Core.Path.{sym, _∙_}
 use native.Mathlib.Omega.{arith}
-use Rattle.text.proofs.Decoded.{Going, going-none, going-more, going-done, last-pair, no-pair}
+use Rattle.text.proofs.Decoded.{Going, going-none, going-more, going-done, going-end, no-pair}
 use Rattle.text.proofs.decode.Statement.{statement}
 use Rattle.text.proofs.decode.Tie as tie
 
 abbrev Inv-loop : tie.InvT-loop
-Inv-loop text out₀ n₀ out n = Going text out₀ out n
+Inv-loop digits text out₀ most n₀ out n = (n ≤ most) × Going text out₀ out n
 
 abbrev μ-loop : tie.MeasureT-loop
-μ-loop text out₀ n₀ out n = length text - n
+μ-loop digits text out₀ most n₀ out n = most - n
+
+least-requires : tie.Need-least-requires Inv-loop μ-loop
+least-requires c κs = search needs
 
 loop-holds : tie.Need-loop-holds Inv-loop μ-loop
-loop-holds c = going-none _ _
-
-mul-loop : tie.Need-mul-loop Inv-loop μ-loop
-mul-loop c = search needs
-
-add-loop : tie.Need-add-loop Inv-loop μ-loop
-add-loop c = search needs
+loop-holds c = (omega arith, going-none _ _)
 
 mul-pair-of : tie.Need-mul-pair-of Inv-loop μ-loop
 mul-pair-of c = search needs
@@ -48,12 +44,13 @@ enum-told : tie.Need-enum-told Inv-loop μ-loop
 enum-told c = search needs
 
 same-length : tie.Need-same-length Inv-loop μ-loop
-same-length c = search needs
+same-length c = c .before .before .before .before .before .before .loop .inv .1 .room
 
 returns : tie.Need-returns Inv-loop μ-loop
 returns c =
     let l = c .before .before .before .before .before .before in
-    going-done (l .loop .inv) (no-pair _ (l .loop .n) (omega arith) (sym (c .before .before .pair-of .ensures) ∙ c .enum-told .given .1))
+    let m = l .before .least .ensures in
+    going-done (l .loop .inv .1) (omega (arith, m, l .loop .inv .1 .room, c .before .before .before .before .before .loop-test .taken)) (no-pair _ (l .loop .n) (omega (arith, m, c .before .before .before .before .before .loop-test .taken)) (sym (c .before .before .pair-of .ensures) ∙ c .enum-told .given .1))
 
 slice-write-out : tie.Need-slice-write-out Inv-loop μ-loop
 slice-write-out c = search needs
@@ -67,13 +64,15 @@ loop-less c = search needs
 loop-again : tie.Need-loop-again Inv-loop μ-loop
 loop-again c =
     let l = c .before .before .before .before .before .before .before in
-    going-more (l .loop .inv) _ (omega arith) (omega arith) (sym (c .before .before .before .pair-of .ensures) ∙ c .before .x .given .1)
+    let m = l .before .least .ensures in
+    let n = c .before .before .before .before .before .before .loop-test .taken in
+    (omega arith, going-more (l .loop .inv .1) _ (omega (arith, m, n)) (omega (arith, m, n, l .loop .inv .1 .room)) (sym (c .before .before .before .pair-of .ensures) ∙ c .before .x .given .1))
 
 same-length-2 : tie.Need-same-length-2 Inv-loop μ-loop
-same-length-2 c = search needs
+same-length-2 c = c .before .loop .inv .1 .room
 
 returns-2 : tie.Need-returns-2 Inv-loop μ-loop
-returns-2 c = going-done (c .before .loop .inv) (last-pair _ (c .before .loop .n) (omega arith))
+returns-2 c = let l = c .before in going-end (l .loop .inv .1) (omega (arith, l .before .least .ensures, l .loop .inv .1 .room, l .loop .inv .0, c .loop-test .left))
 
 pub decode-spec : {M : Type 1} → statement M
 decode-spec =
@@ -81,9 +80,8 @@ decode-spec =
     (tie.spec
     Inv-loop
     μ-loop
+    least-requires
     loop-holds
-    mul-loop
-    add-loop
     mul-pair-of
     shared-slice-read-pair-of
     mul-pair-of-2

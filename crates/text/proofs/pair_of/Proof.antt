@@ -1,63 +1,44 @@
--- `pair_of` meets its contract: a digit is below 16, so that the byte fits.
+-- `pair_of` meets its contract: the table has the value of each character, and a digit's is below 16, so that the byte fits.
 use borrow.Author.Needs.{needs}
-use mathlib.Core.Path.{sym, _∙_}
+use borrow.Author.Tests.{lt-ltb, le-ltb}
+use mathlib.Core.Path.{_≡_, sym, _∙_}
+use Prim.Native.Nat.{ℕ, _<_}
 use native.Mathlib.Omega.{arith}
-use Rattle.text.specs.Line.{pairOf}
-use Rattle.text.proofs.Digits.{digit-lt}
+use lib.ListN.{length, getD}
+use denote.Ref.{now}
+use Rattle.text.specs.Line.{digitOf, pairOf}
 use Rattle.text.proofs.pair_of.Statement.{statement}
 use Rattle.text.proofs.pair_of.Tie as tie
 
-digit-of-requires : tie.Need-digit-of-requires
-digit-of-requires c κs = search needs
-
-enum-known-h : tie.Need-enum-known-h
-enum-known-h c = search needs
-
-enum-told : tie.Need-enum-told
-enum-told c = search needs
+shared-slice-read-h : tie.Need-shared-slice-read-h
+shared-slice-read-h c = omega (arith, c .before .pre .all)
 
 returns : tie.Need-returns
 unfolding pairOf
-returns c = rw (← c .before .before .digit-of .ensures, c .enum-told .given .1)
+returns c = let s = c .before .before in rw (← (s .pre .each (s .args .a) (omega arith)), lt-ltb 15 _ (c .if1 .taken))
 
-digit-of-requires-2 : tie.Need-digit-of-requires-2
-digit-of-requires-2 c κs = search needs
-
-enum-known-l : tie.Need-enum-known-l
-enum-known-l c = search needs
-
-enum-told-2 : tie.Need-enum-told-2
-enum-told-2 c = search needs
+shared-slice-read-l : tie.Need-shared-slice-read-l
+shared-slice-read-l c = omega (arith, c .before .before .before .pre .all)
 
 returns-2 : tie.Need-returns-2
 unfolding pairOf
-returns-2 c = rw (← c .before .before .before .before .before .before .digit-of .ensures, ← c .before .before .digit-of2 .ensures, c .before .before .before .before .h .given .1, c .enum-told2 .given .1)
+returns-2 c =
+    let s = c .before .before .before .before in
+    rw (← (s .pre .each (s .args .a) (omega arith)), ← (s .pre .each (s .args .b) (omega arith)), le-ltb 15 _ (c .before .before .if1 .left), lt-ltb 15 _ (c .if2 .taken))
 
-mul-t7 : tie.Need-mul-t7
-mul-t7 c = let h = digit-lt _ _ (sym (c .before .before .before .before .before .h .given .1) ∙ c .before .before .before .before .before .before .before .digit-of .ensures) in omega arith
+mul-t8 : tie.Need-mul-t8
+mul-t8 c = search needs
 
-add-t8 : tie.Need-add-t8
-add-t8 c =
-    let h = digit-lt _ _ (sym (c .before .before .before .before .before .h .given .1) ∙ c .before .before .before .before .before .before .before .digit-of .ensures) in
-    let l = digit-lt _ _ (sym (c .before .l .given .1) ∙ c .before .before .before .digit-of2 .ensures) in
-    omega arith
+add-t11 : tie.Need-add-t11
+add-t11 c = search needs
 
 returns-3 : tie.Need-returns-3
 unfolding pairOf
-returns-3 c = rw (← c .before .before .before .before .before .before .before .digit-of .ensures, ← c .before .before .before .digit-of2 .ensures, c .before .before .before .before .before .h .given .1, c .before .l .given .1)
+returns-3 c =
+    let s = c .before .before .before .before in
+    rw (← (s .pre .each (s .args .a) (omega arith)), ← (s .pre .each (s .args .b) (omega arith)), le-ltb 15 _ (c .before .before .if1 .left), le-ltb 15 _ (c .if2 .left))
 
 pub pair-of-spec : {M : Type 1} → statement M
 pair-of-spec =
     tie.close
-    (tie.spec
-    digit-of-requires
-    enum-known-h
-    enum-told
-    returns
-    digit-of-requires-2
-    enum-known-l
-    enum-told-2
-    returns-2
-    mul-t7
-    add-t8
-    returns-3)
+    (tie.spec shared-slice-read-h returns shared-slice-read-l returns-2 mul-t8 add-t11 returns-3)
