@@ -1,6 +1,7 @@
-//! What a sound text says: the ship, its rows of hydrostatics, and one loading
-//! condition with its tree of items, tanks, cargo tanks and groups. Lengths
-//! are in millimetres, masses in kilograms, angles in tenths of a degree.
+//! What a condition says together with its ship and rows: the ship, her rows
+//! of hydrostatics, and one loading condition with its tree of items, tanks,
+//! cargo tanks and groups. Lengths are in millimetres, masses in kilograms,
+//! angles in tenths of a degree.
 
 use crate::sets::CriteriaSet;
 

@@ -6,11 +6,9 @@ use crate::book::Document;
 use crate::curve::{Curve, Y_PER_MILLIMETRE};
 use crate::line::up;
 use crate::loading::{laden, Laden};
-use crate::parse::document;
 use crate::refusal::Refusal;
 use crate::roll;
 use crate::sets::{CriteriaSet, Limit};
-use crate::text::lines;
 
 pub const FAIL: u8 = 0;
 pub const PASS: u8 = 1;
@@ -25,11 +23,6 @@ pub struct Judgement {
     pub verdicts: [u8; 8],
     /// W, KG, GM, areas of 1, 2, 3, greatest y, its angle, phi0, phi1, net.
     pub figures: [i128; 11],
-}
-
-/// From the text to the judgement, or the first fault met.
-pub fn judge(text: &[u8]) -> Result<Judgement, Refusal> {
-    judge_document(&document(&lines(text)?)?)
 }
 
 /// The judgement of a document, or refusal 7 or 8.

@@ -2,15 +2,18 @@
 //! its systematic cases, answer a corpus with reports, judge a text with exact
 //! values, and search for texts that a rounding favours.
 
+mod blocks;
 mod book;
+mod booklet;
+mod condition;
 mod corpus;
 mod criteria;
 mod curve;
 mod exact;
+mod instrument;
 mod layout;
 mod line;
 mod loading;
-mod parse;
 mod refusal;
 mod report;
 mod roll;
@@ -24,8 +27,10 @@ mod bench;
 use std::io::{self, BufReader, BufWriter, ErrorKind, Read, Write};
 use std::process::ExitCode;
 
+use book::Document;
 use corpus::Corpus;
-use criteria::judge;
+use instrument::{answer, documents, Call, MOST_ROOM};
+use refusal::Refusal;
 
 const USAGE: &str = "usage: second judge | exact | answers | cases [--small] \
                      | corpus --seed S --count N [--small] \
@@ -65,29 +70,45 @@ fn usage() -> ExitCode {
     ExitCode::from(2)
 }
 
-fn read_one() -> io::Result<Vec<u8>> {
+/// The most characters that the program takes.
+const PROGRAM_LIMIT: usize = 60_000;
+
+/// Standard input as one call, one character beyond the limit at most.
+fn read_one() -> io::Result<Call> {
     let mut text = Vec::new();
-    let enough = text::MOST_CHARACTERS as u64 + 1;
+    let enough = PROGRAM_LIMIT as u64 + 1;
     io::stdin().lock().take(enough).read_to_end(&mut text)?;
-    Ok(text)
+    Ok(Call {
+        text,
+        limit: PROGRAM_LIMIT,
+        room: MOST_ROOM,
+    })
 }
 
 fn judge_one() -> io::Result<()> {
-    let written = report::report(&judge(&read_one()?));
-    io::stdout().lock().write_all(written.as_bytes())
+    let answer = answer(&read_one()?);
+    io::stdout().lock().write_all(answer.written.as_bytes())
 }
 
+/// A table for each condition, in order.
 fn show_one() -> io::Result<()> {
-    let written = exact::table(&read_one()?)
-        .unwrap_or_else(|refusal| format!("refused with {}\n", refusal.number));
+    let refused = |refusal: Refusal| format!("refused with {}\n", refusal.number);
+    let shown = |read: Result<Document, Refusal>| {
+        let table = read.and_then(|document| exact::table(&document));
+        table.unwrap_or_else(refused)
+    };
+    let written = match documents(&read_one()?) {
+        Ok(read) => read.into_iter().map(shown).collect(),
+        Err(refusal) => refused(refusal),
+    };
     io::stdout().lock().write_all(written.as_bytes())
 }
 
 fn answer_all() -> io::Result<()> {
     let mut input = BufReader::new(io::stdin().lock());
     let mut output = BufWriter::new(io::stdout().lock());
-    while let Some(text) = stream::read_text(&mut input)? {
-        output.write_all(report::report(&judge(&text)).as_bytes())?;
+    while let Some(call) = stream::read_call(&mut input)? {
+        output.write_all(answer(&call).shown().as_bytes())?;
     }
     output.flush()
 }
@@ -104,7 +125,7 @@ fn corpus_asked(options: &[&str]) -> Option<(Corpus, u64)> {
 fn write_corpus(corpus: &Corpus, count: u64) -> io::Result<()> {
     let mut output = BufWriter::new(io::stdout().lock());
     for number in 0..count {
-        stream::write_text(&mut output, &corpus.text(number))?;
+        stream::write_call(&mut output, &corpus.call(number))?;
     }
     output.flush()
 }

@@ -3,6 +3,9 @@
 use crate::criteria::{Judgement, REFUSED};
 use crate::refusal::Refusal;
 
+/// The characters of a report, its LF counted.
+pub const REPORT: usize = 209;
+
 pub fn report(answer: &Result<Judgement, Refusal>) -> String {
     match answer {
         Ok(judgement) => {
@@ -43,7 +46,7 @@ mod tests {
     fn refusals_are_written_with_threes_and_zeros() {
         let written = report(&Err(Refusal::at(2, 4, 18)));
         assert!(written.starts_with("D10065020004001203030303030303030"));
-        assert_eq!(written.len(), 209);
+        assert_eq!((written.len(), REPORT), (209, 209));
         assert!(written[32..208].bytes().all(|c| c == b'0'));
     }
 

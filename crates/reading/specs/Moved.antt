@@ -1,63 +1,101 @@
--- How far a text has been read, and how each frame moves that on.
-use mathlib.Core.Bool.{true, false}
-use mathlib.Core.List.{List}
-use Prim.Native.Nat.{ℕ, _+_, _-_}
-use lib.ListN.{set}
-use Rattle.rules.specs.Walk.{header, shipFrame, frameAt}
+-- How far a text has been read, and how each line moves that on.
+use mathlib.Core.Path.{_≡_}
+use mathlib.Core.Bool.{Bool, true, false, cond, _&&_}
+use mathlib.Core.List.{List, []}
+use Prim.Native.Nat.{ℕ, _+_, _-_, _≤_, _<_}
+use lib.Dec.{leb, eqb}
+use lib.ListN.{length, set, take}
+use Rattle.rules.specs.Layout.{fewestRows, mostConditions}
+use Rattle.rules.specs.Walk.{header, shipFrame}
+use Rattle.rules.specs.Booklet.{isCondition, rowAt}
 use Rattle.book.specs.Book.{refusal, blankRow}
 use Rattle.book.specs.declared.Ship.{Ship}
 use Rattle.book.specs.declared.Row.{Row}
 use Rattle.book.specs.declared.Table.{Table}
-use Rattle.blocks.specs.BlockAnswers.{shipRead}
+use Rattle.blocks.specs.BlockAnswers.{shipRead, rowRead, rowFault}
 use Rattle.blocks.specs.declared.ship.ShipRead.{ShipRead}
 use Rattle.blocks.specs.declared.ship.ShipRead.the-variants as ship
+use Rattle.blocks.specs.declared.row.RowRead.{RowRead}
+use Rattle.blocks.specs.declared.row.RowAnswer.{RowAnswer}
+use Rattle.blocks.specs.declared.row.RowAnswer.the-variants as row
 use Rattle.cursor.specs.BlockParts.{headOf}
 use Rattle.cursor.specs.declared.Head.{Head}
 use Rattle.cursor.specs.declared.Head.the-variants as head
-use Rattle.frames.specs.FrameAnswers.{frameRead}
-use Rattle.frames.specs.declared.Found.{Found}
-use Rattle.frames.specs.declared.Found.the-variants as found
-use Rattle.reading.specs.TextAnswers.{refusedRead}
+use Rattle.reading.specs.TextAnswers.{frontCharacters, refusedRead}
 use Rattle.reading.specs.declared.State.{State}
-use Rattle.reading.specs.declared.State.the-variants.{Awaited, Rows, Whole, Refused}
+use Rattle.reading.specs.declared.State.the-variants.{Awaited, Rows, Conditions, Refused}
 use Rattle.reading.specs.declared.Moved.{Moved}
+use Rattle.reading.specs.declared.Tally.{Tally}
 use Rattle.reading.specs.declared.Answer.the-variants as answer
 use Rattle.reading.specs.declared.TextRead.{TextRead}
 
--- A frame that tells no row.
+-- ---- a line of which the front is held
+-- Where that is not the whole of its n bytes, it is 37 of them: more than a ship or a row has.
+abbrev pub Cut : List ℕ → ℕ → Type 0
+Cut front n = length front < n → length front ≡ 37
+
+-- What holds of every line of n bytes that begins so.
+pub record Fronts (front : List ℕ) (n : ℕ) (l : List ℕ) : Type 0 where
+  pub long : length l ≡ n
+  pub held : front ≡ take 37 l
+
+abbrev pub OfLine : List ℕ → ℕ → (List ℕ → Type 0) → Type 0
+OfLine front n P = (l : List ℕ) → Fronts front n l → P l
+
+-- ---- how a line moves the state
+-- A line that tells no row.
 abbrev pub rowless : State → Moved
 rowless s = record { state = s; adds = false; row = blankRow }
 
--- The first frame is the ship's.
+-- The first line is the ship's.
 abbrev pub afterShip : ShipRead → State
 afterShip (ship.Refused r) = Refused r
 afterShip (ship.Within s) = Rows s 0
 
--- Then rows, and the condition.
-abbrev pub afterFound : Ship → Row → Found → Moved
-afterFound s r found.Row = record { state = Rows s (r .mass); adds = true; row = r }
-afterFound s r (found.Condition c) = record { state = Whole (record { ship = s; weather = c .weather; sums = c .sums }); adds = false; row = r }
-afterFound s r (found.Refused x) = record { state = Refused x; adds = false; row = r }
+-- Then rows.
+abbrev pub rowAnswered : Ship → Row → RowAnswer → Moved
+rowAnswered s r row.Within = record { state = Rows s (r .mass); adds = true; row = r }
+rowAnswered s r (row.Refused x) = rowless (Refused x)
 
--- 4: 'a frame after A3', behind its own 2.
-abbrev pub afterWhole : ℕ → Head → State
-afterWhole ln (head.Refused r) = Refused r
-afterWhole ln (head.Block t n) = Refused (refusal 4 ln 0)
+abbrev pub afterRow : Ship → RowRead → Moved
+afterRow s r = rowAnswered s (r .row) (r .answer)
 
--- A frame in line ln, with k rows before it. Once refused, frames are no longer looked at.
+-- From the second row on a condition line is in its place.
+abbrev pub movedRows : Ship → ℕ → ℕ → ℕ → List ℕ → Moved
+movedRows s p k ln l = cond (isCondition l && leb fewestRows k) (rowless (Conditions s)) (afterRow s (rowRead (rowAt ln k p l)))
+
+-- 'Any other line after an A3': 4, behind its own 2.
+abbrev pub misplaced : ℕ → Head → State
+misplaced ln (head.Refused r) = Refused r
+misplaced ln (head.Block t n) = Refused (refusal 4 ln 0)
+
+abbrev pub movedConditions : Ship → ℕ → List ℕ → State
+movedConditions s ln l = cond (isCondition l) (Conditions s) (misplaced ln (headOf (header ln 0 l)))
+
+-- A line with the number ln, with k rows before it. Once refused, blocks are no longer looked at.
 unfoldable pub moved : State → ℕ → ℕ → List ℕ → Moved
 moved Awaited k ln l = rowless (afterShip (shipRead (shipFrame ln l)))
-moved (Rows s p) k ln l = let f = frameRead (frameAt ln k p l) in afterFound s (f .row) (f .found)
-moved (Whole r) k ln l = rowless (afterWhole ln (headOf (header ln 0 l)))
+moved (Rows s p) k ln l = movedRows s p k ln l
+moved (Conditions s) k ln l = rowless (movedConditions s ln l)
 moved (Refused r) k ln l = rowless (Refused r)
 
 -- One more row.
 abbrev pub withRow : Table → Row → Table
 withRow t r = record { rows = set (t .rows) (t .count) r; count = t .count + 1 }
 
--- What it comes to where the text ends, before line ln. 5: 'empty text', 'no A3', at the number of lines.
-abbrev pub finished : State → Table → ℕ → TextRead
-finished Awaited t ln = refusedRead (refusal 5 (ln - 1) 0)
-finished (Rows s p) t ln = refusedRead (refusal 5 (ln - 1) 0)
-finished (Whole r) t ln = record { answer = answer.Whole r; table = t }
-finished (Refused r) t ln = refusedRead r
+-- ---- the condition lines, wherever they stand
+-- The 25th is kept in mind by its number.
+abbrev pub tallied : Tally → ℕ → List ℕ → Tally
+tallied t ln l = cond (isCondition l) (record { conditions = t .conditions + 1; over = cond (eqb (t .conditions) mostConditions) ln (t .over) }) t
+
+-- ---- where the text ends, before line ln
+-- 5: 'empty text', 'no A3', at the number of lines.
+abbrev pub ended : State → Table → ℕ → ℕ → TextRead
+ended Awaited t ln k = refusedRead (refusal 5 (ln - 1) 0) k
+ended (Rows s p) t ln k = refusedRead (refusal 5 (ln - 1) 0) k
+ended (Conditions s) t ln k = record { answer = answer.Whole (record { ship = s; at = frontCharacters (t .count) }); table = t; conditions = k }
+ended (Refused r) t ln k = refusedRead r k
+
+-- 5: 'a 25th condition line' goes before.
+abbrev pub finished : State → Table → ℕ → Tally → TextRead
+finished s t ln y = cond (eqb (y .over) 0) (ended s t ln (y .conditions)) (refusedRead (refusal 5 (y .over) 0) 0)

@@ -1,25 +1,54 @@
--- What the code answers to a text, from what the rules answer: what was read as plain data with its table, or the refusal and a blank table.
-use mathlib.Core.List.{[]}
-use Rattle.rules.specs.Layout.{Reading}
+-- What the code answers to a text, from what the rules answer: the ship and where the conditions begin, with the table beside it, or the refusal and a blank table; and what it answers to a condition line.
+use mathlib.Core.List.{List, []}
+use Prim.Native.Nat.{ℕ, _+_, _*_}
+use lib.ListN.{length}
 use Rattle.rules.specs.Outcome.{Ans, refused, got}
-use Rattle.book.specs.Book.{refusal, noRefusal, plainShip, plainWeather, tableOf, sumsOf}
+use Rattle.rules.specs.Booklet.{conditionLines, Booklet, bookFrames, conditionAt}
+use Rattle.book.specs.Book.{refusal, noRefusal, plainShip, tableOf}
 use Rattle.book.specs.declared.Refusal.{Refusal}
-use Rattle.reading.specs.declared.Read.{Read}
+use Rattle.text.specs.Line.{decoded, lineOf}
+use Rattle.text.specs.declared.LineRead.{LineRead}
+use Rattle.text.specs.declared.LineRead.the-variants as line
+use Rattle.frames.specs.FrameAnswers.{conditionRead}
+use Rattle.frames.specs.declared.ConditionRead.the-variants as condition
+use Rattle.reading.specs.declared.Front.{Front}
 use Rattle.reading.specs.declared.Answer.{Answer}
 use Rattle.reading.specs.declared.Answer.the-variants as answer
 use Rattle.reading.specs.declared.TextRead.{TextRead}
+use Rattle.reading.specs.declared.ConditionLine.{ConditionLine}
 
-abbrev pub plainReading : Reading → Read
-plainReading r = record { ship = plainShip (r .ship); weather = plainWeather (r .condition .weather); sums = sumsOf (r .condition .load) }
+-- The characters before the first condition line: a ship's line has 33 of them and a row's 75, the LF among them.
+abbrev pub frontCharacters : ℕ → ℕ
+frontCharacters rows = 33 + 75 * rows
 
-abbrev pub refusedRead : Refusal → TextRead
-refusedRead r = record { answer = answer.Refused r; table = tableOf [] }
+abbrev pub refusedRead : Refusal → ℕ → TextRead
+refusedRead r k = record { answer = answer.Refused r; table = tableOf []; conditions = k }
 
-abbrev pub told : Ans Reading → TextRead
-told (refused n l o) = refusedRead (refusal n l o)
-told (got r) = record { answer = answer.Whole (plainReading r); table = tableOf (r .rows) }
+-- The blocks of a text with k condition lines.
+abbrev pub bookRead : ℕ → Ans Booklet → TextRead
+bookRead k (refused n l o) = refusedRead (refusal n l o) k
+bookRead k (got b) = record { answer = answer.Whole (record { ship = plainShip (b .ship); at = frontCharacters (length (b .rows)) }); table = tableOf (b .rows); conditions = k }
+
+-- Where 1 or the 25th condition line refuses the text none is counted.
+abbrev pub told : Ans (List (List ℕ)) → TextRead
+told (refused n l o) = refusedRead (refusal n l o) 0
+told (got ls) = bookRead (conditionLines ls) (bookFrames ls)
 
 -- The refusal of an answer, or none.
 abbrev pub answerFault : Answer → Refusal
-answerFault (answer.Whole r) = noRefusal
+answerFault (answer.Whole f) = noRefusal
 answerFault (answer.Refused r) = r
+
+-- ---- a condition line
+abbrev pub noLine : ConditionLine
+noLine = record { read = condition.Refused noRefusal; taken = 0 }
+
+-- A line of n bytes, which are these.
+abbrev pub lineRead : ℕ → List ℕ → LineRead → ConditionLine
+lineRead ln l (line.Line n) = record { read = conditionRead (conditionAt ln l); taken = 2 * n + 1 }
+lineRead ln l line.Not = noLine
+lineRead ln l line.End = noLine
+
+-- The line at the front of a text.
+unfoldable pub conditionLine : ℕ → List ℕ → ConditionLine
+conditionLine ln t = lineRead ln (decoded t) (lineOf t)

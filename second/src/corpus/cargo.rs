@@ -12,7 +12,8 @@ use super::order::spelled;
 use super::rows::highest;
 use super::vessel::{self, Vessel};
 use super::winds::blow;
-use crate::criteria::{judge, FAIL, PASS};
+use crate::criteria::{FAIL, PASS};
+use crate::instrument::judge_text;
 use crate::layout::{fields, C3, C5};
 use crate::line::up;
 use crate::sets::{CriteriaSet, CODE};
@@ -178,7 +179,7 @@ fn add_counts(cases: &mut Cases) {
         });
     }
     for fault in [Some(Fault::PastAll), Some(Fault::Tag)] {
-        cases.add_long(format!("C5 as entry 201, fill 0, {fault:?}"), move |dice| {
+        cases.add_full(format!("C5 as entry 201, fill 0, {fault:?}"), move |dice| {
             crowded(dice, 0, fault).text()
         });
     }
@@ -320,7 +321,7 @@ pub fn turned(dice: &mut Dice, set: &'static CriteriaSet, criterion: usize) -> (
     let mut drawn = draw();
     for _ in 0..TRIES {
         let verdict = |(_, kind): (&str, Kind)| {
-            let judged = judge(&planned(&drawn.0, drawn.1, kind));
+            let judged = judge_text(&planned(&drawn.0, drawn.1, kind));
             judged.ok().map(|judged| judged.verdicts[criterion - 1])
         };
         if EITHER.into_iter().map(verdict).eq([Some(PASS), Some(FAIL)]) {

@@ -1,30 +1,103 @@
-//! Texts by chance: sound ones of every size, values anywhere, faults of
-//! blocks, and sound texts with bytes and lines changed.
+//! Texts by chance: sound ones of every size, of one condition and of many,
+//! values anywhere, faults of blocks, and sound texts garbled; now and then
+//! with another limit or another room.
 
 use super::dice::Dice;
 use super::draft::{item, tank, Block, Draft};
 use super::faults::apply_any;
+use super::garble::{changed, misplaced, noise};
 use super::load::{grouped, mixed, spread};
 use super::vessel::{self, Vessel};
 use super::winds::blow;
+use crate::instrument::{Call, MOST_ROOM};
 use crate::layout::{fields, C1, C6};
+use crate::report::REPORT;
 use crate::sets::SETS;
+use crate::stream::LONGEST;
+use crate::text::MOST_CHARACTERS;
 
-const LONGEST: usize = 20_000;
-
-pub fn text(dice: &mut Dice, small: bool) -> Vec<u8> {
+pub fn call(dice: &mut Dice, small: bool) -> Call {
     let mut text = match dice.index(40) {
-        0..=17 => sound(dice, small).text(),
-        18..=22 => windy(dice),
-        23 => high(dice),
-        24..=25 => valued(dice, small, true),
-        26..=27 => valued(dice, small, false),
-        28..=32 => faulty(dice, small),
-        33..=37 => changed(dice, small),
+        0..=5 => sound(dice, small).text(),
+        6..=17 => booklet(dice, small).text(),
+        18..=21 => windy(dice),
+        22 => high(dice),
+        23..=24 => valued(dice, small, true),
+        25..=26 => valued(dice, small, false),
+        27..=31 => faulty(dice, small),
+        32..=34 => {
+            let text = either(dice, small).text();
+            misplaced(dice, &text)
+        }
+        35..=38 => {
+            let text = either(dice, small).text();
+            changed(dice, text)
+        }
         _ => noise(dice, small),
     };
     text.truncate(LONGEST);
-    text
+    let limit = limit(dice, text.len());
+    let room = room(dice, &text);
+    Call { text, limit, room }
+}
+
+/// One limit in seven is not the library's own.
+fn limit(dice: &mut Dice, length: usize) -> usize {
+    match dice.index(40) {
+        0 => length.saturating_sub(1),
+        1 => length,
+        2 => length + 1,
+        3 => dice.index(2 * length + 1),
+        4 => 60_000,
+        5 => dice.index(1 << 32),
+        _ => MOST_CHARACTERS,
+    }
+}
+
+/// One room in seven is another than enough for every text.
+fn room(dice: &mut Dice, text: &[u8]) -> usize {
+    let lines = text.split(|&c| c == b'\n');
+    let asked = REPORT * lines.filter(|line| line.starts_with(b"A3")).count();
+    match dice.index(40) {
+        0 => asked.saturating_sub(1),
+        1 => asked,
+        2 => asked + 1,
+        3 => dice.pick(&[0, 208, 209, 210]),
+        4 => dice.index(MOST_ROOM + 100),
+        5 => dice.index(1 << 32),
+        _ => MOST_ROOM,
+    }
+}
+
+/// A sound draft of one condition or of many.
+fn either(dice: &mut Dice, small: bool) -> Draft {
+    if dice.chance(25) {
+        sound(dice, small)
+    } else {
+        booklet(dice, small)
+    }
+}
+
+/// A ship with conditions that differ in everything, now and then too many.
+fn booklet(dice: &mut Dice, small: bool) -> Draft {
+    let (rows, count, most) = match dice.index(12) {
+        _ if small => (2 + dice.index(2), 1 + dice.index(4), 3),
+        0 => (2 + dice.index(39), 1 + dice.index(24), 30),
+        1 => (2 + dice.index(4), 22 + dice.index(5), 6),
+        2..=4 => (2 + dice.index(8), 1 + dice.index(24), 8),
+        _ => (2 + dice.index(8), 2 + dice.index(5), 12),
+    };
+    let vessel = vessel::any(dice, rows);
+    let mut draft = vessel.hull();
+    for _ in 0..count {
+        let voyage = vessel.voyage(dice);
+        let entries = 1 + dice.index(most);
+        let entries = spread(dice, &voyage, entries);
+        let entries = mixed(dice, entries);
+        let entries = grouped(dice, entries);
+        draft.frames.push(voyage.condition(entries));
+    }
+    draft
 }
 
 fn sound(dice: &mut Dice, small: bool) -> Draft {
@@ -74,7 +147,7 @@ fn high(dice: &mut Dice) -> Vec<u8> {
 
 /// Some values set anywhere within their limits, or anywhere at all.
 fn valued(dice: &mut Dice, small: bool, within: bool) -> Vec<u8> {
-    let mut draft = sound(dice, small);
+    let mut draft = either(dice, small);
     let paths = draft.paths();
     for _ in 0..dice.between(1, 12) {
         let path = dice.pick(&paths);
@@ -99,7 +172,7 @@ fn valued(dice: &mut Dice, small: bool, within: bool) -> Vec<u8> {
 /// the paths of the others still lead somewhere. One in six is the tag of a
 /// weather block.
 fn faulty(dice: &mut Dice, small: bool) -> Vec<u8> {
-    let mut draft = sound(dice, small);
+    let mut draft = either(dice, small);
     let all = draft.paths();
     let mut paths: Vec<Vec<usize>> = (0..dice.between(1, 3)).map(|_| dice.pick(&all)).collect();
     paths.sort();
@@ -112,86 +185,4 @@ fn faulty(dice: &mut Dice, small: bool) -> Vec<u8> {
         }
     }
     draft.text()
-}
-
-/// A sound text with a few changes of its bytes or lines.
-fn changed(dice: &mut Dice, small: bool) -> Vec<u8> {
-    let mut text = sound(dice, small).text();
-    for _ in 0..dice.between(1, 4) {
-        text = if dice.chance(75) {
-            byte_changed(dice, text)
-        } else {
-            line_changed(dice, &text)
-        };
-    }
-    text
-}
-
-fn byte_changed(dice: &mut Dice, mut text: Vec<u8>) -> Vec<u8> {
-    if text.is_empty() {
-        return text;
-    }
-    let place = dice.index(text.len());
-    match dice.index(10) {
-        0 => text[place] ^= 1 << dice.index(8),
-        1 => text[place] = dice.byte(),
-        2 => {
-            text.remove(place);
-        }
-        3 => {
-            text.drain(place..(place + 2).min(text.len()));
-        }
-        4 => text.truncate(place),
-        _ => {
-            text[place] = if text[place] == b'\n' {
-                b'\n'
-            } else {
-                digit(dice)
-            }
-        }
-    }
-    text
-}
-
-fn digit(dice: &mut Dice) -> u8 {
-    dice.pick(b"0123456789ABCDEF")
-}
-
-fn line_changed(dice: &mut Dice, text: &[u8]) -> Vec<u8> {
-    let mut lines: Vec<Vec<u8>> = text
-        .split_inclusive(|&c| c == b'\n')
-        .map(<[u8]>::to_vec)
-        .collect();
-    if lines.is_empty() {
-        return Vec::new();
-    }
-    let (one, other) = (dice.index(lines.len()), dice.index(lines.len()));
-    match dice.index(4) {
-        0 => lines.swap(one, other),
-        1 => {
-            lines.remove(one);
-        }
-        2 => lines.insert(other, lines[one].clone()),
-        _ => lines.truncate(one),
-    }
-    lines.concat()
-}
-
-/// Bytes, digits, or lines of digits that begin like blocks.
-fn noise(dice: &mut Dice, small: bool) -> Vec<u8> {
-    let most = if small { 200 } else { 3_000 };
-    let length = dice.index(most);
-    match dice.index(3) {
-        0 => (0..length).map(|_| dice.byte()).collect(),
-        1 => {
-            let mut text: Vec<u8> = (0..length).map(|_| digit(dice)).collect();
-            text.push(b'\n');
-            text
-        }
-        _ => {
-            let mut bytes = vec![dice.pick(&[0xA1, 0xA2, 0xA3]), 0];
-            bytes.extend((0..length / 8).map(|_| dice.byte() & 0x1F));
-            super::draft::line(&bytes)
-        }
-    }
 }

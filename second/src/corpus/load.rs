@@ -4,8 +4,8 @@
 use super::dice::Dice;
 use super::draft::{cargo, group, item, tank, Block};
 use super::vessel::Vessel;
+use crate::condition::MOST_DEPTH;
 use crate::layout::C3;
-use crate::parse::MOST_DEPTH;
 
 /// So many entries around the vessel's KG, with tanks among them.
 pub fn spread(dice: &mut Dice, vessel: &Vessel, count: usize) -> Vec<Block> {

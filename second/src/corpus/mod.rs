@@ -1,6 +1,7 @@
 //! The corpus: first every systematic case in order, then texts by chance.
 //! A text depends on the seed and its own number only.
 
+mod booklets;
 mod bounds;
 mod cargo;
 mod cases;
@@ -10,6 +11,7 @@ pub mod dice;
 pub mod draft;
 mod edges;
 mod faults;
+mod garble;
 mod load;
 mod order;
 mod rolls;
@@ -26,6 +28,8 @@ mod tests;
 use cases::{Case, Cases};
 use dice::Dice;
 
+use crate::instrument::Call;
+
 pub struct Corpus {
     seed: u64,
     small: bool,
@@ -33,7 +37,7 @@ pub struct Corpus {
 }
 
 impl Corpus {
-    /// With `small`, some long systematic cases are left out and the texts by
+    /// With `small`, some systematic cases are left out and the texts by
     /// chance stay short.
     pub fn new(seed: u64, small: bool) -> Corpus {
         let mut cases = Cases::default();
@@ -48,7 +52,8 @@ impl Corpus {
         sizes::add(&mut cases);
         cargo::add(&mut cases);
         timber::add(&mut cases);
-        cases.list.retain(|case| !(small && case.long));
+        booklets::add(&mut cases);
+        cases.list.retain(|case| !(small && case.full_only));
         Corpus {
             seed,
             small,
@@ -61,13 +66,14 @@ impl Corpus {
         self.cases.iter().map(|case| case.name.as_str())
     }
 
-    pub fn text(&self, number: u64) -> Vec<u8> {
+    /// The text of this number, with its limit and its room.
+    pub fn call(&self, number: u64) -> Call {
         match usize::try_from(number)
             .ok()
             .and_then(|number| self.cases.get(number))
         {
             Some(case) => (case.make)(&mut Dice::new(self.seed, number - case.back)),
-            None => chance::text(&mut Dice::new(self.seed, number), self.small),
+            None => chance::call(&mut Dice::new(self.seed, number), self.small),
         }
     }
 }

@@ -36,12 +36,12 @@ pub fn add(cases: &mut Cases) {
         });
     }
     for body in [4_095, 4_098] {
-        cases.add_long(format!("A3 of {body}"), move |dice| {
+        cases.add_full(format!("A3 of {body}"), move |dice| {
             full(dice, 2, body).text()
         });
     }
     for (name, path) in [("its C1", vec![3, 0]), ("itself", vec![3])] {
-        cases.add_long(format!("A3 of 4097 and a fault of {name}"), move |dice| {
+        cases.add_full(format!("A3 of 4097 and a fault of {name}"), move |dice| {
             let mut draft = full(dice, 2, 4_097);
             apply(dice, &mut draft, &path, Fault::PastAll);
             draft.text()
@@ -145,22 +145,24 @@ fn surveyor(dice: &mut Dice) -> Vec<u8> {
     draft.text()
 }
 
-/// A text whose A3 has a body of so many bytes, with 200 entries and as many
-/// groups as that takes.
+/// A text whose A3 has a body of so many bytes.
 pub fn full(dice: &mut Dice, rows: usize, body: usize) -> Draft {
     let vessel = vessel::any(dice, rows);
     vessel.draft(filling(&vessel, body))
 }
 
-fn filling(vessel: &Vessel, body: usize) -> Vec<Block> {
-    const COUNT: usize = 200;
-    let least = 15 + 9 * COUNT;
+/// Entries that make a body of so many bytes behind the weather, 120 or more
+/// of them: 200 entries where they find room, some as tanks, and as many
+/// groups as that takes.
+pub fn filling(vessel: &Vessel, body: usize) -> Vec<Block> {
+    let count = if body < 1_840 { (body - 15) / 12 } else { 200 };
+    let least = 15 + 9 * count;
     let fits =
         |tanks: &usize| body >= least + 8 * tanks && (body - least - 8 * tanks).is_multiple_of(3);
-    let tanks = (0..=COUNT).rev().find(fits).unwrap_or(0);
+    let tanks = (0..=count).rev().find(fits).unwrap_or(0);
     let mut groups = body.saturating_sub(least + 8 * tanks) / 3;
     let mut entries = Vec::new();
-    for number in 0..COUNT {
+    for number in 0..count {
         let mass = if number == 0 { vessel.mass } else { 0 };
         let entry = if number < tanks {
             tank(mass, vessel.kg, 1_000, 1_000, 1)
@@ -174,8 +176,8 @@ fn filling(vessel: &Vessel, body: usize) -> Vec<Block> {
     entries
 }
 
-/// Texts of 12,000 characters and one more. No sound text is that long: the
-/// longest has 11,232.
+/// Texts of 12,000 characters and one more. No sound text of one condition is
+/// that long: the longest has 11,232.
 fn add_characters(cases: &mut Cases) {
     cases.add("12,000 characters, A3 too long", |dice| {
         full(dice, 40, 4_480).text()
@@ -184,7 +186,7 @@ fn add_characters(cases: &mut Cases) {
         full(dice, 39, 4_518).text()
     });
     for total in [12_000, 12_001] {
-        cases.add_long(
+        cases.add_full(
             format!("{total} characters, a frame behind A3"),
             move |dice| {
                 let mut text = full(dice, 2, 3_000 + (total % 2)).text();
@@ -195,12 +197,12 @@ fn add_characters(cases: &mut Cases) {
                 text
             },
         );
-        cases.add_long(format!("{total} line ends"), move |_| vec![b'\n'; total]);
+        cases.add_full(format!("{total} line ends"), move |_| vec![b'\n'; total]);
     }
-    cases.add_long("12,000 characters, the first line wrong", |dice| {
+    cases.add_full("12,000 characters, the first line wrong", |dice| {
         let mut text = full(dice, 40, 4_480).text();
         text[0] = b'a';
         text
     });
-    cases.add_long("20,000 characters", |_| vec![b'0'; 20_000]);
+    cases.add_full("20,000 characters", |_| vec![b'0'; 20_000]);
 }

@@ -4,8 +4,9 @@
 
 use super::dice::Dice;
 use super::vessel::Vessel;
-use crate::criteria::{judge, Judgement};
+use crate::criteria::Judgement;
 use crate::curve::{Curve, SINES};
+use crate::instrument::judge_text;
 use crate::loading::Laden;
 
 pub type Weights = [i128; 13];
@@ -167,5 +168,5 @@ impl Search {
 /// What the judge says of the vessel with its whole mass at KG.
 pub fn figures(vessel: &Vessel) -> Option<Judgement> {
     let entries = vec![super::draft::item(vessel.mass, vessel.kg)];
-    judge(&vessel.draft(entries).text()).ok()
+    judge_text(&vessel.draft(entries).text()).ok()
 }

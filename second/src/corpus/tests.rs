@@ -6,30 +6,31 @@ use std::path::PathBuf;
 
 use super::winds::sail_text;
 use super::Corpus;
-use crate::criteria::{judge, Judgement, FAIL, NOT_JUDGED, PASS, UNUSED};
+use crate::criteria::{Judgement, FAIL, NOT_JUDGED, PASS, UNUSED};
 use crate::curve::Y_PER_MILLIMETRE;
+use crate::instrument::{answer, judge_text, judgements, Call};
 use crate::refusal::Refusal;
-use crate::report::report;
-use crate::stream::write_text;
-use crate::text::MOST_CHARACTERS;
+use crate::stream::write_call;
 
-const SYSTEMATIC: usize = 2_098;
-const SYSTEMATIC_SMALL: usize = 2_081;
+const SYSTEMATIC: usize = 2_680;
+const SYSTEMATIC_SMALL: usize = 2_388;
 const TWINS: usize = 51;
 const STORED_SEED: u64 = 20_261_115;
-const STORED_COUNT: u64 = 2_130;
+/// The bytes of both stored files are fewer.
+const STORED_MOST: usize = 2_000_000;
+const STORED_COUNT: u64 = 2_448;
 
-pub fn named(corpus: &Corpus, name: &str) -> Vec<u8> {
+pub fn named(corpus: &Corpus, name: &str) -> Call {
     let number = corpus.cases.iter().position(|case| case.name == name);
-    corpus.text(number.unwrap_or_else(|| panic!("no case {name}")) as u64)
+    corpus.call(number.unwrap_or_else(|| panic!("no case {name}")) as u64)
 }
 
 pub fn judged(corpus: &Corpus, name: &str) -> Judgement {
-    judge(&named(corpus, name)).unwrap_or_else(|refusal| panic!("{name}: {refusal:?}"))
+    judge_text(&named(corpus, name).text).unwrap_or_else(|refusal| panic!("{name}: {refusal:?}"))
 }
 
 pub fn refused(corpus: &Corpus, name: &str) -> Option<Refusal> {
-    judge(&named(corpus, name)).err()
+    judge_text(&named(corpus, name).text).err()
 }
 
 pub fn seeds() -> impl Iterator<Item = Corpus> {
@@ -79,7 +80,7 @@ fn winds_are_what_they_are_named() {
         assert_eq!(judged(&corpus, "phi0 none").figures[8..], [-1, 0, 0]);
         let none = judged(&corpus, "u none");
         assert!(none.figures[8] >= 0 && none.verdicts[7] == FAIL && none.figures[9] == 0);
-        let exact = sail_text(&named(&corpus, "lever exact +0")).expect("a sound text");
+        let exact = sail_text(&named(&corpus, "lever exact +0").text).expect("a sound text");
         let met = exact.wind.phi0.map(|phi0| exact.curve.y(phi0));
         assert_eq!(met, Some(exact.wind.steady_lever * Y_PER_MILLIMETRE));
     }
@@ -131,20 +132,14 @@ fn the_first_of_equal_levers_is_taken() {
 fn sizes_are_what_they_are_named() {
     for corpus in seeds() {
         let number = |name: &str| refused(&corpus, name).map(|refusal| refusal.number);
-        assert_eq!(named(&corpus, "the longest sound text").len(), 11_232);
+        assert_eq!(named(&corpus, "the longest sound text").text.len(), 11_232);
         assert_eq!(number("the longest sound text"), None);
-        assert_eq!(
-            named(&corpus, "12,000 characters, A3 too long").len(),
-            MOST_CHARACTERS
-        );
-        let long = refused(&corpus, "12,000 characters, A3 too long");
-        assert_eq!(long, Some(Refusal::at(5, 42, 0)));
-        assert_eq!(
-            named(&corpus, "12,001 characters, A3 too long").len(),
-            MOST_CHARACTERS + 1
-        );
-        let longer = refused(&corpus, "12,001 characters, A3 too long");
-        assert_eq!(longer, Some(Refusal::at(1, 0, 0)));
+        for (total, line) in [(12_000, 42), (12_001, 41)] {
+            let grouped = format!("{},{:03}", total / 1_000, total % 1_000);
+            let name = format!("{grouped} characters, A3 too long");
+            assert_eq!(named(&corpus, &name).text.len(), total);
+            assert_eq!(refused(&corpus, &name), Some(Refusal::at(5, line, 0)));
+        }
         let seen = [
             "A3 of 4096",
             "A3 of 4097",
@@ -203,7 +198,7 @@ fn twins_have_the_same_ship() {
             .collect();
         assert_eq!(twins.len(), TWINS);
         for number in twins {
-            let (tank, cargo) = (corpus.text(number - 1), corpus.text(number));
+            let [tank, cargo] = [number - 1, number].map(|number| corpus.call(number).text);
             assert_eq!(tank.len(), cargo.len());
             let changed = tank.iter().zip(&cargo).filter(|(one, other)| one != other);
             assert!(changed.eq([(&b'3', &b'5')]), "text {number}");
@@ -304,19 +299,25 @@ fn every_verdict_and_refusal_occurs() {
     let mut verdicts = BTreeSet::new();
     let mut refusals = BTreeSet::new();
     let mut below_zero = BTreeSet::new();
-    for text in (0..5_000).map(|number| corpus.text(number)) {
-        assert!(text.len() <= 20_000);
-        match judge(&text) {
-            Ok(judged) => {
-                verdicts.extend(judged.verdicts.into_iter().enumerate());
-                below_zero.extend((0..11).filter(|&figure| judged.figures[figure] < 0));
-            }
-            Err(refusal) => {
-                refusals.insert(refusal.number);
+    for call in (0..5_000).map(|number| corpus.call(number)) {
+        assert!(call.text.len() <= 180_001);
+        let judged = match judgements(&call) {
+            Ok(judged) => judged,
+            Err(refusal) => vec![Err(refusal)],
+        };
+        for judged in judged {
+            match judged {
+                Ok(judged) => {
+                    verdicts.extend(judged.verdicts.into_iter().enumerate());
+                    below_zero.extend((0..11).filter(|&figure| judged.figures[figure] < 0));
+                }
+                Err(refusal) => {
+                    refusals.insert(refusal.number);
+                }
             }
         }
     }
-    assert_eq!(refusals, (1..=8).collect());
+    assert_eq!(refusals, (1..=9).collect());
     let mut both: BTreeSet<(usize, u8)> = (0..8).flat_map(|slot| [(slot, 0), (slot, 1)]).collect();
     both.insert((7, NOT_JUDGED));
     both.extend([0, 1, 4].map(|slot| (slot, UNUSED)));
@@ -331,14 +332,14 @@ fn the_same_seed_gives_the_same_texts() {
         Corpus::new(5, true),
         Corpus::new(6, true),
     );
-    let texts = |corpus: &Corpus| -> Vec<Vec<u8>> {
+    let calls = |corpus: &Corpus| -> Vec<Call> {
         (0..100)
-            .chain(1_900..2_200)
-            .map(|number| corpus.text(number))
+            .chain(2_200..2_600)
+            .map(|number| corpus.call(number))
             .collect()
     };
-    assert_eq!(texts(&one), texts(&same));
-    assert_ne!(texts(&one), texts(&other));
+    assert_eq!(calls(&one), calls(&same));
+    assert_ne!(calls(&one), calls(&other));
 }
 
 #[test]
@@ -351,11 +352,17 @@ fn the_stored_corpus_is_what_is_made_today() {
     };
     let corpus = Corpus::new(STORED_SEED, true);
     assert!(STORED_COUNT as usize > corpus.cases.len());
+    let mut lengths = BTreeSet::new();
     let (mut texts, mut answers) = (Vec::new(), String::new());
-    for text in (0..STORED_COUNT).map(|number| corpus.text(number)) {
-        assert!(write_text(&mut texts, &text).is_ok());
-        answers.push_str(&report(&judge(&text)));
+    for call in (0..STORED_COUNT).map(|number| corpus.call(number)) {
+        assert!(write_call(&mut texts, &call).is_ok());
+        lengths.insert(call.text.len());
+        answers.push_str(&answer(&call).shown());
     }
+    for length in [12_000, 12_001, 59_999, 60_000, 60_001, 180_000, 180_001] {
+        assert!(lengths.contains(&length), "no text of {length} characters");
+    }
+    assert!(texts.len() + answers.len() < STORED_MOST);
     assert!(stored("stored.texts") == texts, "stored.texts differs");
     assert!(
         stored("stored.answers") == answers.into_bytes(),

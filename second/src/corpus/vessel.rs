@@ -5,7 +5,7 @@ use super::dice::Dice;
 use super::draft::{self, Block, Draft};
 use crate::book::{Row, Ship, Weather};
 use crate::curve::SINES;
-use crate::sets::{CriteriaSet, CODE};
+use crate::sets::{CriteriaSet, CODE, SETS};
 
 #[derive(Clone, Debug)]
 pub struct Vessel {
@@ -25,11 +25,41 @@ const EARLY: [i128; 13] = [
 const MIDDLE: [i128; 13] = [0, 5, 40, 130, 300, 520, 750, 900, 930, 800, 500, 50, -600];
 
 impl Vessel {
+    /// Ship, rows and one condition.
     pub fn draft(&self, entries: Vec<Block>) -> Draft {
+        let mut draft = self.hull();
+        draft.frames.push(self.condition(entries));
+        draft
+    }
+
+    /// Ship and rows, with no condition.
+    pub fn hull(&self) -> Draft {
         let mut frames = vec![draft::ship(&self.ship)];
         frames.extend(self.rows.iter().map(draft::row));
-        frames.push(draft::condition(self.criteria, &self.weather, entries));
         Draft { frames }
+    }
+
+    pub fn condition(&self, entries: Vec<Block>) -> Block {
+        draft::condition(self.criteria, &self.weather, entries)
+    }
+
+    /// The same ship on another voyage: mass, height, weather and criteria
+    /// anew.
+    pub fn voyage(&self, dice: &mut Dice) -> Vessel {
+        let mut other = self.clone();
+        let last = self.rows.len() - 1;
+        other.mass = dice.between(self.rows[0].displacement, self.rows[last].displacement);
+        other.kg = (self.kg * dice.between(94, 106) / 100).min(60_000);
+        other.criteria = dice.pick(&SETS);
+        let Weather { wind_area, arm, .. } = self.weather;
+        other.weather = Weather {
+            wind_area: (wind_area * dice.between(40, 200) / 100).min(300_000),
+            arm: (arm * dice.between(70, 140) / 100).min(60_000),
+            block_coefficient: dice.between(430, 760),
+            flooding: dice.between(280, 600),
+            deck_edge: dice.between(90, 350),
+        };
+        other
     }
 
     /// The text with the whole mass at the height of KG.

@@ -9,11 +9,10 @@ use super::solve::{area, figures, fit, lever, sine_curve, sine_sum};
 use super::vessel::{self, Vessel};
 use crate::criteria::{Gust, Wind};
 use crate::curve::{Curve, SINES, Y_PER_MILLIMETRE};
+use crate::instrument::read_text;
 use crate::line::up;
 use crate::loading::laden;
-use crate::parse::document;
 use crate::roll;
-use crate::text::lines;
 
 const TRIES: usize = 60;
 
@@ -83,7 +82,7 @@ fn sail(vessel: &Vessel) -> Option<Sailing> {
 }
 
 pub fn sail_text(text: &[u8]) -> Option<Sailing> {
-    let document = document(&lines(text).ok()?).ok()?;
+    let document = read_text(text).ok()?;
     let laden = laden(&document).ok()?;
     let curve = Curve::of(&laden);
     let wind = Wind::on(&document, &laden, &curve);

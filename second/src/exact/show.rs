@@ -1,21 +1,19 @@
-//! One text with each value exact in turn, for a reader who has it at hand.
+//! One condition with each value exact in turn, for a reader who has it at hand.
 
 use super::rounding::{choices, Kept};
 use super::weather::Verdicts;
 use super::words::{angles, word};
-use crate::parse::document;
+use crate::book::Document;
 use crate::refusal::Refusal;
-use crate::text::lines;
 
 /// A line for document 01's own verdicts of criteria 5 and 8, then one for
 /// each choice of exact values.
-pub fn table(text: &[u8]) -> Result<String, Refusal> {
-    let document = document(&lines(text)?)?;
+pub fn table(document: &Document) -> Result<String, Refusal> {
     let mut choices = choices();
     choices.insert(0, ("none", Kept::NONE));
     let mut table = String::new();
     for (name, kept) in choices {
-        let Some(verdicts) = Verdicts::of(&document, kept) else {
+        let Some(verdicts) = Verdicts::of(document, kept) else {
             return Err(Refusal::of_loading(7));
         };
         table.push_str(&format!("exact {name:6} {}\n", described(&verdicts)));

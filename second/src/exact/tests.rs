@@ -4,7 +4,7 @@
 
 use std::path::PathBuf;
 
-pub use super::draw::text as written;
+use super::draw::text as written;
 use super::fraction::Fraction;
 use super::hull::Hull;
 use super::levers::Levers;
@@ -16,13 +16,11 @@ use crate::book::Document;
 use crate::corpus::Corpus;
 use crate::criteria::{judge_document, PASS, UNUSED};
 use crate::curve::{SINES, Y_PER_MILLIMETRE};
-use crate::parse::document;
+use crate::instrument::{documents, read_text};
 use crate::sets::{CODE, TIMBER};
-use crate::text::lines;
 
 fn read(text: &str) -> Document {
-    let read = lines(text.as_bytes()).and_then(|lines| document(&lines));
-    read.unwrap_or_else(|refusal| panic!("{refusal:?}: {text}"))
+    read_text(text.as_bytes()).unwrap_or_else(|refusal| panic!("{refusal:?}: {text}"))
 }
 
 fn kept(name: &str) -> Kept {
@@ -60,15 +58,10 @@ fn assert_as_used(document: &Document, exact: &Verdicts) {
 fn with_no_value_kept_the_verdicts_are_document_01s() {
     let corpus = Corpus::new(7, true);
     let (mut judged, mut timber) = (0, 0);
-    for number in 0..3_500 {
-        let text = corpus.text(number);
-        let Ok(document) = lines(&text).and_then(|lines| document(&lines)) else {
-            continue;
-        };
-        assert_eq!(
-            read(&String::from_utf8_lossy(&written(&document))),
-            document
-        );
+    let read = (0..3_500).flat_map(|number| documents(&corpus.call(number)).unwrap_or_default());
+    for document in read.flatten() {
+        let again = String::from_utf8_lossy(&written(&document)).into_owned();
+        assert_eq!(self::read(&again), document);
         if judge_document(&document).is_ok() {
             let verdicts = Verdicts::of(&document, Kept::NONE).expect("on its rows");
             assert_as_used(&document, &verdicts);

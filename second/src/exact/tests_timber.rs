@@ -3,7 +3,7 @@
 
 use super::rounding::{choices, Kept};
 use super::show::table;
-use super::tests::{exact, numbered, written};
+use super::tests::{exact, numbered};
 use crate::book::Document;
 use crate::criteria::{judge_document, FAIL, PASS, UNUSED};
 use crate::sets::{CODE, TIMBER};
@@ -53,7 +53,7 @@ fn a_rounding_cannot_favour_what_is_unused() {
 fn the_table_says_unused() {
     for [code, timber] in pairs() {
         let [code, timber] = [code, timber].map(|document| {
-            let lines = table(&written(&document)).expect("it is judged");
+            let lines = table(&document).expect("it is judged");
             lines.lines().map(str::to_string).collect::<Vec<_>>()
         });
         assert_eq!(timber.len(), choices().len() + 1);

@@ -263,16 +263,16 @@ fn add_loadings(cases: &mut Cases) {
 /// The greatest sizes behind a C6, and one beyond.
 fn add_sizes(cases: &mut Cases) {
     for count in [200, 201] {
-        cases.add_long(format!("timber with {count} entries"), move |dice| {
+        cases.add_full(format!("timber with {count} entries"), move |dice| {
             entries(dice, count).judged_by(&TIMBER).text()
         });
     }
     for body in [4_096, 4_097] {
-        cases.add_long(format!("timber with A3 of {body}"), move |dice| {
+        cases.add_full(format!("timber with A3 of {body}"), move |dice| {
             full(dice, 2, body).judged_by(&TIMBER).text()
         });
     }
-    cases.add_long("the longest sound text, timber", |dice| {
+    cases.add_full("the longest sound text, timber", |dice| {
         full(dice, 40, 4_096).judged_by(&TIMBER).text()
     });
 }

@@ -4,7 +4,8 @@
 
 use crate::corpus::tests::{judged, named, refused, seeds};
 use crate::corpus::Corpus;
-use crate::criteria::{judge, Judgement, FAIL, NOT_JUDGED, PASS, UNUSED};
+use crate::criteria::{Judgement, FAIL, NOT_JUDGED, PASS, UNUSED};
+use crate::instrument::{judge_text, judgements};
 use crate::refusal::Refusal;
 
 const TWINS: usize = 141;
@@ -88,11 +89,11 @@ fn twins_have_the_same_ship() {
         let twins = twins(&corpus);
         assert_eq!(twins.len(), TWINS);
         for number in twins {
-            let (code, timber) = (corpus.text(number - 1), corpus.text(number));
+            let [code, timber] = [number - 1, number].map(|number| corpus.call(number).text);
             assert_eq!(code.len(), timber.len());
             let changed = code.iter().zip(&timber).filter(|(one, other)| one != other);
             assert!(changed.eq([(&b'1', &b'6')]), "text {number}");
-            match (judge(&code), judge(&timber)) {
+            match (judge_text(&code), judge_text(&timber)) {
                 (Ok(code), Ok(timber)) => assert_shared(&code, &timber),
                 (code, timber) => assert_eq!(code, timber, "text {number}"),
             }
@@ -273,7 +274,7 @@ fn where_a_c6_may_stand() {
             ("SRRTM", Some((4, 5))),
             ("m", Some((2, 1))),
             ("SRRT", None),
-            ("SRRTT", Some((4, 5))),
+            ("SRRTT", None),
             ("SRT", Some((4, 3))),
         ] {
             let refusal = refused(&corpus, &format!("frames {word}"));
@@ -319,7 +320,7 @@ fn c6_is_tested_as_c1() {
         assert_eq!(number("timber with A3 of 4097"), Some(5));
         assert_eq!(number("the longest sound text, timber"), None);
         assert_eq!(
-            named(&corpus, "the longest sound text, timber").len(),
+            named(&corpus, "the longest sound text, timber").text.len(),
             11_232
         );
     }
@@ -330,8 +331,9 @@ fn c6_is_tested_as_c1() {
 fn chance_chooses_timber_too() {
     for corpus in seeds() {
         let first = corpus.names().count() as u64;
-        let texts = (first..first + 600).map(|number| judge(&corpus.text(number)));
-        let judged: Vec<Judgement> = texts.flatten().collect();
+        let calls = (first..first + 600).map(|number| corpus.call(number));
+        let judged = calls.flat_map(|call| judgements(&call).unwrap_or_default());
+        let judged: Vec<Judgement> = judged.flatten().collect();
         let timber = judged.iter().filter(|judged| judged.verdicts[0] == UNUSED);
         assert!(3 * timber.count() > judged.len());
     }
