@@ -1,0 +1,7 @@
+-- A booklet: laws of specs/Booklet and Apart, and of the answer to one (specs/Answer).
+pub mod Counted
+pub mod Frames
+pub mod Refusals
+pub mod WholeText
+pub mod Relined
+pub mod Conditions
