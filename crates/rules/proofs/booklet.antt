@@ -5,3 +5,5 @@ pub mod Refusals
 pub mod WholeText
 pub mod Relined
 pub mod Conditions
+pub mod Sent
+pub mod Room

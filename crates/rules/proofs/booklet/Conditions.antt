@@ -2,17 +2,18 @@
 use mathlib.Core.Path.{_≡_, refl, ap, ap₂, sym, _∙_}
 use mathlib.Core.Logic.{_↔_, _≢_}
 use mathlib.Core.List.{List}
-use Prim.Native.Nat.{ℕ, _≤_}
+use Prim.Native.Nat.{ℕ, _+_, _≤_, _<_}
 use native.Mathlib.Omega.{arith}
 use lib.ListN.{getD}
 use borrow.Author.Tests.{leb-true, le-leb, ne-eqb}
 use Rattle.rules.specs.Numbers.{Bytes}
 use Rattle.rules.specs.Blocks.{block, conditionTag, Ship, Row}
-use Rattle.rules.specs.Layout.{Condition, spellCondition, ConditionLimits}
+use Rattle.rules.specs.Layout.{Condition, spellCondition, mostBytes, ConditionLimits}
 use Rattle.rules.specs.Outcome.{Ans, refused, got, _>>=_}
 use Rattle.rules.specs.Walk.{conditionIn}
 use Rattle.rules.specs.Report.{Judgement}
-use Rattle.rules.proofs.walk.Outcome.{refused-got, bind-inv, test-inv, bind-got, bind-refused, test-got}
+use Rattle.rules.proofs.walk.Outcome.{bind-inv, test-inv, bind-got, bind-refused, test-got}
+use Rattle.rules.proofs.walk.Refusals.{Refusal, weaker, bind-refusal}
 use Rattle.rules.proofs.walk.Heads.{header-tag}
 use Rattle.rules.proofs.walk.Conditions.{inside-sound, inside-got}
 use Rattle.rules.specs.Booklet.{conditionAt}
@@ -79,3 +80,9 @@ module _ (s : Ship) (vs : List Row) where
       go : (m : Ans Condition) → (relined ln m >>= judging) ≡ inLine ln (relined ln′ m >>= judging)
       go (refused n l o) = rw (ne-eqb ln′ 0 (λ e. omega arith))
       go (got c) = judging-stays ln c
+
+  -- ---- what its refusals say
+  pub answer-refusal : (ln : ℕ) (l : List ℕ) → Refusal (λ n m o. (2 ≤ n) × (n ≤ 8) × (m ≤ ln) × (o < 3 + mostBytes)) (answerAt s vs ln l)
+  answer-refusal ln l =
+      rw (answer-steps ln l)
+      (bind-refusal _ _ (weaker (λ n m o x. omega arith) (conditionAt-refusal ln l)) (λ c ec. weaker (λ n m o x. omega arith) (judged-refusal (record { ship = s; rows = vs; condition = c }))))

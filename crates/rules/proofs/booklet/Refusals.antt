@@ -2,13 +2,12 @@
 use mathlib.Core.Path.{_≡_, refl}
 use mathlib.Core.Bool.{Bool, true, false, _&&_}
 use mathlib.Core.List.{List, [], _∷_}
-use Prim.Native.Nat.{ℕ, _+_, _-_, max, min, _≤_, _<_}
+use Prim.Native.Nat.{ℕ, _+_, _-_, max, min, _≤_}
 use native.Mathlib.Omega.{arith}
 use lib.Dec.{leb}
 use lib.ListN.{length}
 use borrow.Author.Tests.{leb-true}
 use Rattle.rules.specs.Layout.{fewestRows, mostBytes}
-use Rattle.rules.specs.Outcome.{refused, got}
 use Rattle.rules.specs.Walk.{conditionIn}
 use Rattle.rules.specs.Booklet.{isCondition, counted, countedLines, rowAt, onlyConditions, behindShip, bookFrames, readWhole, conditionAt}
 use Rattle.rules.proofs.walk.Heads.{header-splits}
@@ -29,7 +28,7 @@ counted-refusal (l ∷ ls) ln n = go (λ n. counted-refusal ls (ln + 1) n) (isCo
     go H true p = rw (counted-a3 l ls ln n p) (test-refusal _ _ _ _ _ (omega arith) (weaker (λ n l o x. omega arith) (H (n - 1))))
     go H false p = rw (counted-other l ls ln n p) (weaker (λ n l o x. omega arith) (H n))
 
-countedLines-refusal : (most : ℕ) (t : List ℕ) → Refusal (λ n l o. NumberFrom 1 n) (countedLines most t)
+pub countedLines-refusal : (most : ℕ) (t : List ℕ) → Refusal (λ n l o. NumberFrom 1 n) (countedLines most t)
 countedLines-refusal most t =
     rw (countedLines-steps most t) (test-refusal _ _ _ _ _ (omega arith) (bind-refusal _ _ (lines-refusal 1 t) (λ ls els. bind-refusal _ _ (weaker (λ n l o x. omega arith) (counted-refusal ls 1 _)) (λ u eu. given))))
 
