@@ -7,3 +7,7 @@ pub mod Relined
 pub mod Conditions
 pub mod Sent
 pub mod Room
+pub mod Reports
+pub mod LineOnly
+pub mod Alone
+pub mod OfOne
