@@ -11,3 +11,5 @@ pub mod Reports
 pub mod LineOnly
 pub mod Alone
 pub mod OfOne
+pub mod Long
+pub mod PlaceFits
