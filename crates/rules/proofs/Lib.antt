@@ -7,3 +7,4 @@ pub mod answer
 pub mod booklet
 pub mod bench
 pub mod Reading
+pub mod Booklets

@@ -40,6 +40,16 @@ unfolding conditionAt conditionIn
 condition-got ln c L =
     bind-got _ (frame-got ln conditionTag (spellCondition c) (omega (arith, L .long))) ∙ test-got _ _ _ _ refl ∙ test-got _ _ _ _ (le-leb _ _ (L .long)) ∙ inside-got ln c L
 
+-- An allowed line says one condition only.
+pub line-got : (ln : ℕ) (l : List ℕ) (a : AllowedLine l) → conditionAt ln l ≡ got (a .0)
+line-got ln l a = rw (← (a .2)) (condition-got ln (a .0) (a .1))
+
+pub condition-unique : (l : List ℕ) (a b : AllowedLine l) → a .0 ≡ b .0
+condition-unique l a b =
+    let p = line-got 0 l a in
+    let q = line-got 0 l b in
+    cc
+
 -- ---- with the judgement
 module _ (s : Ship) (vs : List Row) where
   abbrev judging : Condition → Ans Judgement
@@ -59,8 +69,7 @@ module _ (s : Ship) (vs : List Row) where
 
       back : AllowedLine l → (n m o : ℕ) → (2 ≤ n) × (n ≤ 6) → answerAt s vs ln l ≡ refused n m o → ⊥
       back a n m o h e =
-          let g : conditionAt ln l ≡ got (a .0) = rw (← (a .2)) (condition-got ln (a .0) (a .1)) in
-          let j : judging (a .0) ≡ refused n m o = sym (answer-steps ln l ∙ bind-got judging g) ∙ e in
+          let j : judging (a .0) ≡ refused n m o = sym (answer-steps ln l ∙ bind-got judging (line-got ln l a)) ∙ e in
           let p = judged-refusal _ .holds n m o j in
           omega arith
 

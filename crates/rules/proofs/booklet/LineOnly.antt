@@ -7,9 +7,9 @@ use lib.ListN.{length, take, drop}
 use Rattle.rules.specs.Numbers.{digits}
 use Rattle.rules.specs.Text.{LF, hex}
 use Rattle.rules.specs.Blocks.{block}
-use Rattle.rules.specs.Outcome.{refused}
-use Rattle.rules.specs.Report.{verdictNumber, noJudgement, reportTag, reportBody, reportLine}
-use Rattle.rules.specs.Answer.{reportOf}
+use Rattle.rules.specs.Outcome.{Ans, refused, got}
+use Rattle.rules.specs.Report.{Judgement, verdictNumber, noJudgement, reportTag, reportBody, reportLine}
+use Rattle.rules.specs.Answer.{reportOf, inLine}
 use Rattle.rules.proofs.answer.Steps.{report-refused}
 use Rattle.rules.proofs.answer.Length.{body-length}
 
@@ -39,8 +39,13 @@ zeros = noJudgement .figures
 refusal-spelt : (n l o : ℕ) → reportOf (refused n l o) ≡ spelt n o void zeros refl refl l
 refusal-spelt n l o = report-refused n l o ∙ report-spelt n o void zeros refl refl l
 
-pub line-only : (n l l′ o : ℕ) → (take 8 (reportOf (refused n l o)) ≡ take 8 (reportOf (refused n l′ o))) × (drop 12 (reportOf (refused n l o)) ≡ drop 12 (reportOf (refused n l′ o)))
+line-only : (n l l′ o : ℕ) → (take 8 (reportOf (refused n l o)) ≡ take 8 (reportOf (refused n l′ o))) × (drop 12 (reportOf (refused n l o)) ≡ drop 12 (reportOf (refused n l′ o)))
 line-only n l l′ o = (
   ap (take 8) (refusal-spelt n l o) ∙ before n o void zeros refl refl l l′ ∙ sym (ap (take 8) (refusal-spelt n l′ o)),
   ap (drop 12) (refusal-spelt n l o) ∙ behind n o void zeros refl refl l l′ ∙ sym (ap (drop 12) (refusal-spelt n l′ o)),
 )
+
+-- So an answer's report is the same in another line, but for these.
+pub in-line-only : (ln : ℕ) (a : Ans Judgement) → (take 8 (reportOf (inLine ln a)) ≡ take 8 (reportOf a)) × (drop 12 (reportOf (inLine ln a)) ≡ drop 12 (reportOf a))
+in-line-only ln (refused n l o) = line-only n _ l o
+in-line-only ln (got j) = (refl, refl)

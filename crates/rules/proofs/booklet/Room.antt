@@ -14,7 +14,9 @@ use Rattle.rules.specs.Outcome.{Ans, refused, got, _>>=_}
 use Rattle.rules.specs.Report.{Judgement, concat, reportLength}
 use Rattle.rules.specs.Booklet.{conditionLines, countedLines, Booklet, bookFrames, readWhole}
 use Rattle.rules.specs.Answer.{reportOf, answerAt, answersFrom, answers, taken, firstNumber, number, room, roomFor}
-use Rattle.rules.proofs.walk.Outcome.{bind-got, bind-refused}
+use Rattle.rules.proofs.walk.Outcome.{bind-inv, bind-got, bind-refused}
+use Rattle.rules.proofs.booklet.Counted.{lines-lead}
+use Rattle.rules.proofs.booklet.Frames.{frames-sound}
 use Rattle.rules.proofs.booklet.Refusals.{readWhole-refusal}
 use Rattle.rules.proofs.booklet.WholeText.{countedLines-sound}
 use Rattle.rules.proofs.booklet.Conditions.{answer-refusal}
@@ -32,6 +34,17 @@ room-bounds most t = rw (room-counted most t) (go (countedLines most t) refl)
     go : (a : Ans (List (List ℕ))) → countedLines most t ≡ a → (reportLength ≤ roomFor a) × (roomFor a ≤ reportLength * mostConditions)
     go (refused n l o) e = omega arith
     go (got ls) e = omega (arith, countedLines-sound most t ls e .atMost)
+
+-- A booklet asks for 209 bytes for each of its conditions.
+pub room-read : (most : ℕ) (t : List ℕ) (b : Booklet) → readWhole most t ≡ got b → room most t ≡ reportLength * length (b .conditions)
+unfolding readWhole
+room-read most t b e =
+    let a = bind-inv _ _ e in
+    let F = frames-sound (a .0) b (countedLines-sound most t (a .0) (a .1) .lines) (a .2) in
+    let n : conditionLines (a .0) ≡ length (b .conditions) = sym (ap conditionLines (F .spells)) ∙ lines-lead (b .ship) (b .rows) (b .conditions) (F .begin) in
+    let r = room-counted most t ∙ ap roomFor (a .1) in
+    let z = F .some in
+    omega arith
 
 module _ (most : ℕ) (t buffer : List ℕ) where
   -- ---- with room
