@@ -8,14 +8,18 @@ use native.Mathlib.Omega.{arith}
 use lib.ListN.{length, take, drop, getD, length-set}
 use Rattle.rules.specs.Numbers.{Bytes}
 use Rattle.rules.specs.Blocks.{conditionTag, Ship, Row}
-use Rattle.rules.specs.Layout.{mostCharacters}
+use Rattle.rules.specs.Layout.{Condition, mostCharacters}
 use Rattle.rules.specs.Outcome.{refused, got}
+use Rattle.rules.specs.Walk.{linesFrom}
+use Rattle.rules.specs.Met.{lead}
+use Rattle.rules.specs.Places.{FramesFill, ConditionFills}
 use Rattle.rules.specs.Report.{reportLength}
-use Rattle.rules.specs.Booklet.{Booklet, readWhole}
-use Rattle.rules.specs.Apart.{spellBooklet, AllowedWhole, AllowedLine, lineAt, alone, respelt}
+use Rattle.rules.specs.Booklet.{Booklet, readWhole, conditionAt}
+use Rattle.rules.specs.Apart.{linesOf, spellBooklet, AllowedWhole, AllowedLine, lineAt, alone, respelt}
 use Rattle.rules.specs.Answer.{reportOf, answered, answerAt, answers, answer, inLine, number, written, room}
 use Rattle.rules.proofs.booklet.WholeText.{whole-iff-allowed, whole-unique}
 use Rattle.rules.proofs.booklet.Conditions.{condition-iff-allowed, condition-unique}
+use Rattle.rules.proofs.booklet.InsideParent.{lines-of-booklet, front-fills, line-fills}
 use Rattle.rules.proofs.booklet.Room as rooms
 use Rattle.rules.proofs.booklet.Reports as reports
 use Rattle.rules.proofs.booklet.Alone as alones
@@ -38,6 +42,14 @@ allowed-line s vs ln l t B = condition-iff-allowed s vs ln l t B
 -- It says one condition only.
 pub one-condition : (l : List ℕ) (a b : AllowedLine l) → a .0 ≡ b .0
 one-condition l a b = condition-unique l a b
+
+-- ---- where its blocks stand
+-- The lines of a text that is read are those of the ship, the rows and the conditions. Each of the ship's and the rows' is filled by its frame. So is that of each condition that is read:
+-- in it the weather stands at offset 3, behind it the entries end to end, of which the last ends with the line; and so in each group, from behind its head to its end.
+pub inside-parent : (most : ℕ) (t : List ℕ) (b : Booklet) → readWhole most t ≡ got b
+    → (linesFrom 1 t ≡ got (linesOf b)) × FramesFill (lead (b .ship) (b .rows) [])
+    × ((k : ℕ) → k < length (b .conditions) → (ln : ℕ) (c : Condition) → conditionAt ln (lineAt b k) ≡ got c → ConditionFills (lineAt b k) c)
+inside-parent most t b e = (lines-of-booklet most t b e, front-fills most t b e, line-fills most t b e)
 
 -- ---- how much room
 -- The number is 9 exactly when the buffer is shorter than the room that the text asks for ..

@@ -13,3 +13,4 @@ pub mod Alone
 pub mod OfOne
 pub mod Long
 pub mod PlaceFits
+pub mod InsideParent

@@ -40,7 +40,7 @@ one-of (l ∷ ls) zero h = let a = length-line l ls in let b = length-line l [] 
 one-of (l ∷ ls) (suc k) h = let a = length-line l ls in let b = one-of ls k (omega arith) in omega arith
 
 -- ---- lines that begin with A3
-begin-at : (ls : List (List ℕ)) (k : ℕ) → BeginA3 ls → k < length ls → BeginA3 (getD ls k [] ∷ [])
+pub begin-at : (ls : List (List ℕ)) (k : ℕ) → BeginA3 ls → k < length ls → BeginA3 (getD ls k [] ∷ [])
 unfolding BeginA3
 begin-at [] k B h = absurd (omega arith)
 begin-at (l ∷ ls) zero B h = (B .0, B .1, tt)
