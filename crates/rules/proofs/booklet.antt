@@ -10,6 +10,7 @@ pub mod Room
 pub mod Reports
 pub mod LineOnly
 pub mod Alone
+pub mod AsFrames
 pub mod OfOne
 pub mod Long
 pub mod PlaceFits

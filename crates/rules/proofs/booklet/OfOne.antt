@@ -4,43 +4,26 @@ use mathlib.Core.List.{List, [], _∷_}
 use Prim.Native.Nat.{ℕ, _+_, _≤_}
 use native.Mathlib.Omega.{arith}
 use lib.ListN.{length, getD}
-use borrow.Author.Tests.{le-leb}
 use Rattle.rules.specs.Blocks.{Ship, Row, conditionTag}
 use Rattle.rules.specs.Layout.{Condition, Rising, fewestRows, mostRows, mostCharacters}
 use Rattle.rules.specs.Outcome.{Ans, refused, got, _>>=_}
-use Rattle.rules.specs.Walk.{Head, header, conditionIn, aCondition, frameOf, theCondition, found, frameAt, closed, after, tail, readFrames, read}
+use Rattle.rules.specs.Walk.{closed, after, tail, readFrames, read}
 use Rattle.rules.specs.Met.{Led, behindRows, lead}
-use Rattle.rules.proofs.walk.Outcome.{bind-got, bind-refused, test-got}
-use Rattle.rules.proofs.walk.Heads.{header-tag}
+use Rattle.rules.proofs.walk.Outcome.{bind-got, bind-refused, bind-cong, bind-bind}
 use Rattle.rules.proofs.walk.Frames.{ship-got, tail-row}
 use Rattle.rules.proofs.walk.WholeText.{read-lines}
 use Rattle.rules.proofs.answer.Steps.{answered-refused, answered-read}
 use Rattle.rules.specs.Booklet.{Booklet, readWhole, conditionAt}
 use Rattle.rules.specs.Apart.{BeginA3, linesOf, spellBooklet, lineAt, readingAt}
 use Rattle.rules.specs.Answer.{answered, answerAt, answersFrom, answers}
+use Rattle.rules.proofs.booklet.AsFrames.{frame-condition}
 use Rattle.rules.proofs.booklet.WholeText.{sound}
 use Rattle.rules.proofs.booklet.Frames.{framed, Lines-booklet}
 use Rattle.rules.proofs.booklet.Conditions.{answer-steps}
 
-map-map : {A B C : Type 0} (m : Ans A) (f : A → B) (g : B → C) → ((m >>= λ a. got (f a)) >>= λ b. got (g b)) ≡ (m >>= λ a. got (g (f a)))
-unfolding _>>=_
-map-map (refused n l o) f g = refl
-map-map (got a) f g = refl
-
 tail-one : (l : List ℕ) (ln k p : ℕ) → getD l 0 0 ≡ conditionTag → fewestRows ≤ k → tail (l ∷ []) ln k p ≡ (conditionAt ln l >>= λ c. got (record { rows = []; condition = c }))
-unfolding tail frameAt frameOf found after closed conditionAt
-tail-one l ln k p t f = go (header ln 0 l) refl
-  where
-    inner : (m : Ans Condition) → ((m >>= λ c. got (theCondition c)) >>= after (tail []) [] ln k) ≡ (m >>= λ c. got (record { rows = []; condition = c }))
-    inner (refused n l o) = bind-refused _ (bind-refused _ refl) ∙ sym (bind-refused _ refl)
-    inner (got c) = bind-got _ (bind-got _ refl) ∙ bind-got _ refl ∙ sym (bind-got _ refl)
-
-    go : (a : Ans Head) → header ln 0 l ≡ a → tail (l ∷ []) ln k p ≡ (conditionAt ln l >>= λ c. got (record { rows = []; condition = c }))
-    go (refused x y z) e = bind-refused _ (bind-refused _ e) ∙ sym (bind-refused _ (bind-refused _ e))
-    go (got h) e =
-        let q : conditionTag ≡ h .tag = sym t ∙ header-tag ln 0 l h e in
-        let F : frameOf ln (h .tag) ≡ got aCondition = rw (← q) refl in
-        ap (_>>= after (tail []) [] ln k) (bind-got _ e ∙ bind-got _ F ∙ test-got _ _ _ _ (le-leb fewestRows k f)) ∙ inner (conditionIn ln h) ∙ ap (_>>= λ c. got (record { rows = []; condition = c })) (sym (bind-got _ e))
+unfolding tail after closed
+tail-one l ln k p t f = ap (_>>= after (tail []) [] ln k) (frame-condition ln k p l t f) ∙ bind-bind _ _ _ ∙ bind-cong _ _ _ (λ c ec. bind-got _ refl)
 
 rows-one : (vs : List Row) (l : List ℕ) (ln ln′ k p : ℕ) → getD l 0 0 ≡ conditionTag → Rising p vs → ln′ ≡ ln + length vs → fewestRows ≤ k + length vs → k + length vs ≤ mostRows
     → tail (behindRows vs (l ∷ [])) ln k p ≡ (conditionAt ln′ l >>= λ c. got (record { rows = vs; condition = c }))
@@ -49,7 +32,7 @@ rows-one [] l ln ln′ k p t R e f m = let q : ln′ ≡ ln = omega arith in rw 
 rows-one (v ∷ vs) l ln ln′ k p t R e f m =
     tail-row v (behindRows vs (l ∷ [])) ln k p (R .0) (R .1) (omega arith)
     ∙ ap (_>>= λ x. got (record { rows = v ∷ x .rows; condition = x .condition })) (rows-one vs l (ln + 1) ln′ (k + 1) (v .mass) t (R .2) (omega arith) (omega arith) (omega arith))
-    ∙ map-map (conditionAt ln′ l) _ _
+    ∙ bind-bind _ _ _
 
 -- The reading of ship, rows and one condition line is the condition's own.
 pub frames-of-one : (s : Ship) (vs : List Row) (l : List ℕ) → Led s vs → fewestRows ≤ length vs → getD l 0 0 ≡ conditionTag
@@ -58,7 +41,7 @@ unfolding readFrames
 frames-of-one s vs l L f t =
     bind-got _ (ship-got 1 s (L .hull))
     ∙ ap (_>>= λ x. got (record { ship = s; rows = x .rows; condition = x .condition })) (rows-one vs l 2 (2 + length vs) 0 0 t (L .rising) refl (omega arith) (omega (arith, L .many)))
-    ∙ map-map (conditionAt (2 + length vs) l) _ _
+    ∙ bind-bind _ _ _
 
 first : (cs : List (List ℕ)) → BeginA3 cs → 1 ≤ length cs → getD (getD cs 0 []) 0 0 ≡ conditionTag
 unfolding BeginA3

@@ -14,17 +14,24 @@ use Rattle.rules.proofs.walk.Heads.{header-splits}
 use Rattle.rules.proofs.walk.Refusals.{Refusal, given, plain, weaker, bind-refusal, test-cases, test-refusal, NumberFrom, At, Between, lines-refusal, header-refusal, inside-refusal, row-refusal, shipFrame-refusal, closed-refusal}
 use Rattle.rules.proofs.booklet.Counted.{countedLines-steps, counted-a3, counted-other, only-a3, only-other, behind-a3, behind-row}
 
--- A number from 2 to 6 at one of these lines, of which the first has the number ln, or at the line before where there is none; and no offset.
-abbrev pub Among : List (List ℕ) → ℕ → ℕ → ℕ → ℕ → Type 0
-Among ls ln n l o = NumberFrom 2 n × (ln + min 1 (length ls) ≤ l + 1) × (l ≤ ln + length ls - 1) × (o ≡ 0)
+-- A number from 2 to 6, from one line to another, and no offset.
+abbrev pub Among : ℕ → ℕ → ℕ → ℕ → ℕ → Type 0
+Among a e n l o = NumberFrom 2 n × (a ≤ l) × (l ≤ e) × (o ≡ 0)
+
+-- Of lines of which the first has the number ln; with none left it may be the line before.
+abbrev pub InLines : List (List ℕ) → ℕ → ℕ → ℕ → ℕ → Type 0
+InLines ls ln n l o = Among ln (ln + length ls - 1) n l o
+
+abbrev pub Left : List (List ℕ) → ℕ → ℕ → ℕ → ℕ → Type 0
+Left ls ln n l o = Among (ln + min 1 (length ls) - 1) (ln + length ls - 1) n l o
 
 -- ---- before the blocks
-pub counted-refusal : (ls : List (List ℕ)) (ln n : ℕ) → Refusal (Among ls ln) (counted ln n ls)
+pub counted-refusal : (ls : List (List ℕ)) (ln n : ℕ) → Refusal (InLines ls ln) (counted ln n ls)
 unfolding counted
 counted-refusal [] ln n = given
 counted-refusal (l ∷ ls) ln n = go (λ n. counted-refusal ls (ln + 1) n) (isCondition l) refl
   where
-    go : ((n : ℕ) → Refusal (Among ls (ln + 1)) (counted (ln + 1) n ls)) → (c : Bool) → isCondition l ≡ c → Refusal (Among (l ∷ ls) ln) (counted ln n (l ∷ ls))
+    go : ((n : ℕ) → Refusal (InLines ls (ln + 1)) (counted (ln + 1) n ls)) → (c : Bool) → isCondition l ≡ c → Refusal (InLines (l ∷ ls) ln) (counted ln n (l ∷ ls))
     go H true p = rw (counted-a3 l ls ln n p) (test-refusal _ _ _ _ _ (omega arith) (weaker (λ n l o x. omega arith) (H (n - 1))))
     go H false p = rw (counted-other l ls ln n p) (weaker (λ n l o x. omega arith) (H n))
 
@@ -38,26 +45,26 @@ unfolding rowAt
 rowAt-refusal ln k p l =
     bind-refusal _ _ (weaker (λ n l o x. omega arith) (header-refusal ln 0 l)) (λ h eh. test-refusal _ _ _ _ _ (omega arith) (test-refusal _ _ _ _ _ (omega arith) (weaker (λ n l o x. omega arith) (row-refusal ln p h))))
 
-pub only-refusal : (ls : List (List ℕ)) (ln : ℕ) → Refusal (Among ls ln) (onlyConditions ln ls)
+pub only-refusal : (ls : List (List ℕ)) (ln : ℕ) → Refusal (InLines ls ln) (onlyConditions ln ls)
 unfolding onlyConditions
 only-refusal [] ln = given
 only-refusal (l ∷ ls) ln = go (only-refusal ls (ln + 1)) (isCondition l) refl
   where
-    go : Refusal (Among ls (ln + 1)) (onlyConditions (ln + 1) ls) → (c : Bool) → isCondition l ≡ c → Refusal (Among (l ∷ ls) ln) (onlyConditions ln (l ∷ ls))
+    go : Refusal (InLines ls (ln + 1)) (onlyConditions (ln + 1) ls) → (c : Bool) → isCondition l ≡ c → Refusal (InLines (l ∷ ls) ln) (onlyConditions ln (l ∷ ls))
     go H true p = rw (only-a3 l ls ln p) (weaker (λ n l o x. omega arith) H)
     go H false p = rw (only-other l ls ln p) (weaker (λ n l o x. omega arith) (closed-refusal ln (l ∷ ls)))
 
-pub behind-refusal : (ls : List (List ℕ)) (ln k p : ℕ) → Refusal (Among ls ln) (behindShip ls ln k p)
+pub behind-refusal : (ls : List (List ℕ)) (ln k p : ℕ) → Refusal (Left ls ln) (behindShip ls ln k p)
 unfolding behindShip
 behind-refusal [] ln k p = plain (omega arith)
 behind-refusal (l ∷ ls) ln k p = go (λ k p. behind-refusal ls (ln + 1) k p) (isCondition l && leb fewestRows k) refl
   where
-    go : ((k p : ℕ) → Refusal (Among ls (ln + 1)) (behindShip ls (ln + 1) k p)) → (c : Bool) → (isCondition l && leb fewestRows k) ≡ c → Refusal (Among (l ∷ ls) ln) (behindShip (l ∷ ls) ln k p)
+    go : ((k p : ℕ) → Refusal (Left ls (ln + 1)) (behindShip ls (ln + 1) k p)) → (c : Bool) → (isCondition l && leb fewestRows k) ≡ c → Refusal (Left (l ∷ ls) ln) (behindShip (l ∷ ls) ln k p)
     go H true q = rw (behind-a3 l ls ln k p q) (bind-refusal _ _ (weaker (λ n l o x. omega arith) (only-refusal ls (ln + 1))) (λ u eu. given))
     go H false q =
         rw (behind-row l ls ln k p q) (bind-refusal _ _ (weaker (λ n l o x. omega arith) (rowAt-refusal ln k p l)) (λ v ev. bind-refusal _ _ (weaker (λ n l o x. omega arith) (H _ _)) (λ x ex. given)))
 
-pub bookFrames-refusal : (ls : List (List ℕ)) → Refusal (Among ls 1) (bookFrames ls)
+pub bookFrames-refusal : (ls : List (List ℕ)) → Refusal (Left ls 1) (bookFrames ls)
 unfolding bookFrames
 bookFrames-refusal [] = plain (omega arith)
 bookFrames-refusal (l ∷ ls) =
