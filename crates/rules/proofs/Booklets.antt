@@ -7,15 +7,16 @@ use Prim.Native.Nat.{ℕ, _+_, _*_, _≤_, _<_}
 use native.Mathlib.Omega.{arith}
 use lib.ListN.{length, take, drop, getD, length-set}
 use Rattle.rules.specs.Numbers.{Bytes}
+use Rattle.rules.specs.Text.{text, Lines}
 use Rattle.rules.specs.Blocks.{conditionTag, Ship, Row}
-use Rattle.rules.specs.Layout.{Condition, mostCharacters}
+use Rattle.rules.specs.Layout.{Condition, mostCharacters, mostConditions}
 use Rattle.rules.specs.Outcome.{refused, got}
 use Rattle.rules.specs.Walk.{linesFrom}
-use Rattle.rules.specs.Met.{lead}
+use Rattle.rules.specs.Met.{lead, Met, Overruns}
 use Rattle.rules.specs.Places.{FramesFill, ConditionFills}
 use Rattle.rules.specs.Report.{reportLength}
-use Rattle.rules.specs.Booklet.{Booklet, readWhole, conditionAt}
-use Rattle.rules.specs.Apart.{linesOf, spellBooklet, AllowedWhole, AllowedLine, lineAt, alone, respelt}
+use Rattle.rules.specs.Booklet.{conditionLines, Booklet, readWhole, conditionAt}
+use Rattle.rules.specs.Apart.{linesOf, spellBooklet, AllowedWhole, AllowedLine, lineAt, alone, respelt, MetWhole}
 use Rattle.rules.specs.Answer.{reportOf, answered, answerAt, answers, answer, inLine, number, written, room}
 use Rattle.rules.proofs.booklet.WholeText.{whole-iff-allowed, whole-unique}
 use Rattle.rules.proofs.booklet.Conditions.{condition-iff-allowed, condition-unique}
@@ -25,6 +26,8 @@ use Rattle.rules.proofs.booklet.Reports as reports
 use Rattle.rules.proofs.booklet.Alone as alones
 use Rattle.rules.proofs.booklet.LineOnly.{in-line-only}
 use Rattle.rules.proofs.booklet.OfOne as ones
+use Rattle.rules.proofs.booklet.OnlyOverrun.{two-whole}
+use Rattle.rules.proofs.booklet.LineOverrun.{two-line}
 
 -- ---- which texts are read
 -- A text gets none of 1 to 6 for the whole exactly when it is allowed as a whole.
@@ -64,7 +67,7 @@ nine-keeps most t buffer e = rooms.without-room most t buffer (nine most t buffe
 pub room-read : (most : ℕ) (t : List ℕ) (b : Booklet) → readWhole most t ≡ got b → room most t ≡ reportLength * length (b .conditions)
 room-read most t b e = rooms.room-read most t b e
 
-pub room-bounds : (most : ℕ) (t : List ℕ) → (reportLength ≤ room most t) × (room most t ≤ reportLength * 24)
+pub room-bounds : (most : ℕ) (t : List ℕ) → (reportLength ≤ room most t) × (room most t ≤ reportLength * mostConditions)
 room-bounds most t = rooms.room-bounds most t
 
 -- ---- each condition for itself
@@ -120,3 +123,15 @@ beyond-kept most t buffer b e r = reports.beyond-kept b most t buffer e r
 -- It is answered as `answered` says, of which Reading promises more.
 pub of-one : (most : ℕ) (t : List ℕ) (b : Booklet) → most ≤ mostCharacters → readWhole most t ≡ got b → length (b .conditions) ≡ 1 → answers b ≡ answered t ∷ []
 of-one most t b m e one = ones.of-one most t b e m one
+
+-- ---- what is refused
+-- A text of lines within its limit, of which at most 24 begin with A3, is refused with 2 for the whole exactly where the reading comes to a line whose frame runs past it, or that has one or two bytes:
+-- the first line; one behind the ship's and some rows' that is no condition line in its place; one behind condition lines that is none. The offset is 0.
+pub two-for-the-whole : (most : ℕ) (ls : List (List ℕ)) → Lines ls → length (text ls) ≤ most → conditionLines ls ≤ mostConditions → (ln o : ℕ)
+    → (readWhole most (text ls) ≡ refused 2 ln o) ↔ ((o ≡ 0) × (l : List ℕ) × MetWhole ls ln l × Overruns l)
+two-for-the-whole most ls B c m ln o = two-whole most ls B c m ln o
+
+-- A condition of a text that is read is refused with 2, in its line and at an offset, exactly where in the text with that condition alone a block is met there whose length runs past its parent, or one or two bytes where a block would begin.
+pub two-in-line : (most : ℕ) (t : List ℕ) (b : Booklet) → readWhole most t ≡ got b → (k : ℕ) → k < length (b .conditions) → (o : ℕ)
+    → (answer b k ≡ refused 2 (2 + length (b .rows) + k) o) ↔ ((left : List ℕ) × Met (linesOf (alone b (lineAt b k))) (2 + length (b .rows)) o left × Overruns left)
+two-in-line most t b e k h o = two-line most t b e k h o

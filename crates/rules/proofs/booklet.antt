@@ -15,3 +15,6 @@ pub mod OfOne
 pub mod Long
 pub mod PlaceFits
 pub mod InsideParent
+pub mod Overrun
+pub mod OnlyOverrun
+pub mod LineOverrun

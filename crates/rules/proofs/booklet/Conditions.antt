@@ -12,7 +12,7 @@ use Rattle.rules.specs.Layout.{Condition, spellCondition, mostBytes, Con
 use Rattle.rules.specs.Outcome.{Ans, refused, got, _>>=_}
 use Rattle.rules.specs.Walk.{conditionIn}
 use Rattle.rules.specs.Report.{Judgement}
-use Rattle.rules.proofs.walk.Outcome.{bind-inv, test-inv, bind-got, bind-refused, test-got}
+use Rattle.rules.proofs.walk.Outcome.{refused-got, bind-inv, bind-first, test-inv, bind-got, bind-refused, test-got}
 use Rattle.rules.proofs.walk.Refusals.{Refusal, weaker, bind-refusal}
 use Rattle.rules.proofs.walk.Heads.{header-tag}
 use Rattle.rules.proofs.walk.Conditions.{inside-sound, inside-got}
@@ -59,19 +59,27 @@ module _ (s : Ship) (vs : List Row) where
   unfolding answerAt
   answer-steps ln l = refl
 
+  -- A refusal up to 6 is the line's own.
+  pub answer-own : (ln : ℕ) (l : List ℕ) {n m o : ℕ} → n ≤ 6 → answerAt s vs ln l ≡ refused n m o → conditionAt ln l ≡ refused n m o
+  answer-own ln l {n} {m} {o} h e = go (conditionAt ln l) refl
+    where
+      go : (a : Ans Condition) → conditionAt ln l ≡ a → conditionAt ln l ≡ refused n m o
+      go (refused x y z) q = bind-first _ judging q (sym (answer-steps ln l) ∙ e)
+      go (got c) q = absurd (let p = judged-refusal _ .holds n m o (sym (answer-steps ln l ∙ bind-got judging q) ∙ e) in omega arith)
+
+  pub answer-refused : (ln : ℕ) (l : List ℕ) {n m o : ℕ} → conditionAt ln l ≡ refused n m o → answerAt s vs ln l ≡ refused n m o
+  answer-refused ln l e = answer-steps ln l ∙ bind-refused judging e
+
   -- A condition line gets none of 2 to 6 exactly when it is allowed.
   pub condition-iff-allowed : (ln : ℕ) (l : List ℕ) → getD l 0 0 ≡ conditionTag → Bytes l → ((n m o : ℕ) → (2 ≤ n) × (n ≤ 6) → answerAt s vs ln l ≢ refused n m o) ↔ AllowedLine l
   condition-iff-allowed ln l t B = (λ h. go h (conditionAt ln l) refl, λ a n m o h e. back a n m o h e)
     where
       go : ((n m o : ℕ) → (2 ≤ n) × (n ≤ 6) → answerAt s vs ln l ≢ refused n m o) → (a : Ans Condition) → conditionAt ln l ≡ a → AllowedLine l
-      go h (refused n m o) e = absurd (h n m o (conditionAt-refusal ln l .holds n m o e .0) (answer-steps ln l ∙ bind-refused _ e))
+      go h (refused n m o) e = absurd (h n m o (conditionAt-refusal ln l .holds n m o e .0) (answer-refused ln l e))
       go h (got c) e = let x = condition-sound ln l c t B e in (c, x .0, x .1)
 
       back : AllowedLine l → (n m o : ℕ) → (2 ≤ n) × (n ≤ 6) → answerAt s vs ln l ≡ refused n m o → ⊥
-      back a n m o h e =
-          let j : judging (a .0) ≡ refused n m o = sym (answer-steps ln l ∙ bind-got judging (line-got ln l a)) ∙ e in
-          let p = judged-refusal _ .holds n m o j in
-          omega arith
+      back a n m o h e = refused-got (sym (answer-own ln l (h .1) e) ∙ line-got ln l a)
 
   -- ---- at another line
   judging-stays : (ln : ℕ) (c : Condition) → judging c ≡ inLine ln (judging c)

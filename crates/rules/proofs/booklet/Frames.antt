@@ -23,7 +23,7 @@ use Rattle.rules.specs.Apart.{BeginA3, linesOf, WholeLimits}
 use Rattle.rules.proofs.booklet.Counted.{begins, only-a3, only-other, behind-a3, behind-row}
 
 -- ---- a row
-row-sound : (ln k p : ℕ) (l : List ℕ) (v : Row) → Bytes l → rowAt ln k p l ≡ got v → (spellBlock row v ≡ l) × (ok row v ≡ true) × (p < v .mass) × (k < mostRows)
+pub row-sound : (ln k p : ℕ) (l : List ℕ) (v : Row) → Bytes l → rowAt ln k p l ≡ got v → (spellBlock row v ≡ l) × (ok row v ≡ true) × (p < v .mass) × (k < mostRows)
 unfolding rowAt rowIn spellBlock
 row-sound ln k p l v B e =
     let h = bind-inv _ _ e in
