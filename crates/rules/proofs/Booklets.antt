@@ -2,23 +2,22 @@
 -- Its words are defined in specs/: Apart says which texts are allowed as a whole and which condition lines are, Booklet in which order they are checked, Answer what is sent back.
 use mathlib.Core.Path.{_≡_, sym, ap, _∙_}
 use mathlib.Core.Logic.{_↔_, _≢_}
-use mathlib.Core.List.{List, [], _∷_}
-use Prim.Native.Nat.{ℕ, _+_, _*_, _≤_, _<_}
+use mathlib.Core.List.{List, [], _∷_, _++_}
+use Prim.Native.Nat.{ℕ, _+_, _*_, max, _≤_, _<_}
 use native.Mathlib.Omega.{arith}
 use lib.ListN.{length, take, drop, getD, length-set}
 use Rattle.rules.specs.Numbers.{Bytes}
-use Rattle.rules.specs.Text.{text, Lines}
 use Rattle.rules.specs.Blocks.{conditionTag, Ship, Row}
 use Rattle.rules.specs.Layout.{Condition, mostCharacters, mostConditions}
 use Rattle.rules.specs.Outcome.{refused, got}
 use Rattle.rules.specs.Walk.{linesFrom}
 use Rattle.rules.specs.Met.{lead, Met, Overruns}
-use Rattle.rules.specs.Places.{FramesFill, ConditionFills}
+use Rattle.rules.specs.Places.{FramesFill, ConditionFills, SameBefore, lookedAt}
 use Rattle.rules.specs.Report.{reportLength}
-use Rattle.rules.specs.Booklet.{conditionLines, Booklet, readWhole, conditionAt}
-use Rattle.rules.specs.Apart.{linesOf, spellBooklet, AllowedWhole, AllowedLine, lineAt, alone, respelt, MetWhole}
+use Rattle.rules.specs.Booklet.{Booklet, readWhole, conditionAt}
+use Rattle.rules.specs.Apart.{linesOf, spellBooklet, AllowedWhole, AllowedLine, LinesWithin, lineAt, alone, respelt, MetWhole}
 use Rattle.rules.specs.Answer.{reportOf, answered, answerAt, answers, answer, inLine, number, written, room}
-use Rattle.rules.proofs.booklet.WholeText.{whole-iff-allowed, whole-unique}
+use Rattle.rules.proofs.booklet.WholeText.{lines-of-refused, whole-iff-allowed, whole-unique}
 use Rattle.rules.proofs.booklet.Conditions.{condition-iff-allowed, condition-unique}
 use Rattle.rules.proofs.booklet.InsideParent.{lines-of-booklet, front-fills, line-fills}
 use Rattle.rules.proofs.booklet.Room as rooms
@@ -28,6 +27,9 @@ use Rattle.rules.proofs.booklet.LineOnly.{in-line-only}
 use Rattle.rules.proofs.booklet.OfOne as ones
 use Rattle.rules.proofs.booklet.OnlyOverrun.{two-whole}
 use Rattle.rules.proofs.booklet.LineOverrun.{two-line}
+use Rattle.rules.proofs.booklet.FirstFault.{whole-fault, fault-in-line}
+use Rattle.rules.proofs.booklet.Refusals.{conditionAt-refusal}
+use Rattle.rules.proofs.booklet.PlaceFits.{whole-fits}
 
 -- ---- which texts are read
 -- A text gets none of 1 to 6 for the whole exactly when it is allowed as a whole.
@@ -127,11 +129,32 @@ of-one most t b m e one = ones.of-one most t b e m one
 -- ---- what is refused
 -- A text of lines within its limit, of which at most 24 begin with A3, is refused with 2 for the whole exactly where the reading comes to a line whose frame runs past it, or that has one or two bytes:
 -- the first line; one behind the ship's and some rows' that is no condition line in its place; one behind condition lines that is none. The offset is 0.
-pub two-for-the-whole : (most : ℕ) (ls : List (List ℕ)) → Lines ls → length (text ls) ≤ most → conditionLines ls ≤ mostConditions → (ln o : ℕ)
-    → (readWhole most (text ls) ≡ refused 2 ln o) ↔ ((o ≡ 0) × (l : List ℕ) × MetWhole ls ln l × Overruns l)
-two-for-the-whole most ls B c m ln o = two-whole most ls B c m ln o
+pub two-for-the-whole : (most : ℕ) (t : List ℕ) (ls : List (List ℕ)) → LinesWithin most t ls → (ln o : ℕ) → (readWhole most t ≡ refused 2 ln o) ↔ ((o ≡ 0) × (l : List ℕ) × MetWhole ls ln l × Overruns l)
+two-for-the-whole most t ls C ln o = two-whole most t ls C ln o
 
 -- A condition of a text that is read is refused with 2, in its line and at an offset, exactly where in the text with that condition alone a block is met there whose length runs past its parent, or one or two bytes where a block would begin.
 pub two-in-line : (most : ℕ) (t : List ℕ) (b : Booklet) → readWhole most t ≡ got b → (k : ℕ) → k < length (b .conditions) → (o : ℕ)
     → (answer b k ≡ refused 2 (2 + length (b .rows) + k) o) ↔ ((left : List ℕ) × Met (linesOf (alone b (lineAt b k))) (2 + length (b .rows)) o left × Overruns left)
 two-in-line most t b e k h o = two-line most t b e k h o
+
+-- A refusal for the whole depends on nothing behind the line that it names. Two such texts have the same lines before that one; it has one length in both, and the same bytes as far as the refusal looks: to the end of its head for 2, 4 and 3, of its frame for 6.
+-- All that stands behind, in the line and in further lines, may differ: the refusal is the same. Left out is 5, no A3: it names the text's end, and a further line would change it.
+pub first-fault : (most : ℕ) (t t′ : List ℕ) (front later later′ : List (List ℕ)) (l l′ : List ℕ) (n : ℕ) → LinesWithin most t (front ++ (l ∷ later)) → LinesWithin most t′ (front ++ (l′ ∷ later′)) → SameBefore (lookedAt l n 0) l l′ → n ≢ 5
+    → readWhole most t ≡ refused n (1 + length front) 0 → readWhole most t′ ≡ refused n (1 + length front) 0
+first-fault most t t′ front later later′ l l′ n C C′ A five e = whole-fault most t t′ front later later′ l l′ n C C′ A five e
+
+-- Nor does a condition's refusal, up to 6, depend on anything behind the block that it names, whatever the ship, the rows and its place: another line of the same length, with the same bytes as far as the refusal looks, gets the same.
+pub first-fault-in-line : (s : Ship) (vs : List Row) (ln : ℕ) (l l′ : List ℕ) (n m o : ℕ) → getD l 0 0 ≡ conditionTag → SameBefore (lookedAt l n o) l l′ → n ≤ 6 → answerAt s vs ln l ≡ refused n m o → answerAt s vs ln l′ ≡ refused n m o
+first-fault-in-line s vs ln l l′ n m o tag A h e = fault-in-line n m o l l′ A s vs ln tag h e
+
+-- Every text that is refused for the whole with another number than 1 and 5 is lines within its limit, of which at most 24 begin with A3: so these promises leave none of them out.
+pub lines-before-blocks : (most : ℕ) (t : List ℕ) (n l o : ℕ) → readWhole most t ≡ refused n l o → n ≢ 1 → n ≢ 5 → (ls : List (List ℕ)) × LinesWithin most t ls
+lines-before-blocks most t n l o e one five = lines-of-refused most t n l o e one five
+
+-- ---- where a refusal stands
+-- A refusal for the whole has offset 0 and a line that fits two bytes; one of a condition line has that line, and an offset inside it.
+pub whole-place : (most : ℕ) (t : List ℕ) (n l o : ℕ) → most ≤ mostCharacters → readWhole most t ≡ refused n l o → (l < 65_536) × (o ≡ 0)
+whole-place most t n l o h e = whole-fits most t h e
+
+pub condition-place : (ln : ℕ) (l : List ℕ) (n m o : ℕ) → conditionAt ln l ≡ refused n m o → (2 ≤ n) × (n ≤ 6) × (m ≡ ln) × (o < max 1 (length l))
+condition-place ln l n m o e = let x = conditionAt-refusal ln l .holds n m o e in omega arith

@@ -18,3 +18,4 @@ pub mod InsideParent
 pub mod Overrun
 pub mod OnlyOverrun
 pub mod LineOverrun
+pub mod FirstFault

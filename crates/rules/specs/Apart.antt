@@ -6,11 +6,11 @@ use mathlib.Core.List.{List, [], _∷_, _++_}
 use Prim.Native.Nat.{ℕ, _+_, _≤_}
 use lib.ListN.{length, getD, set}
 use Rattle.rules.specs.Numbers.{Bytes}
-use Rattle.rules.specs.Text.{text}
+use Rattle.rules.specs.Text.{text, Lines}
 use Rattle.rules.specs.Blocks.{block, ok, Ship, ship, Row, conditionTag}
 use Rattle.rules.specs.Layout.{Condition, Reading, spellCondition, Rising, fewestRows, mostRows, mostConditions, ConditionLimits}
 use Rattle.rules.specs.Met.{Led, lead}
-use Rattle.rules.specs.Booklet.{Booklet}
+use Rattle.rules.specs.Booklet.{conditionLines, Booklet}
 
 -- Lines that begin with A3, whatever else they hold.
 unfoldable pub BeginA3 : List (List ℕ) → Type 0
@@ -33,6 +33,13 @@ pub record WholeLimits (most : ℕ) (b : Booklet) : Type 0 where
   pub some : 1 ≤ length (b .conditions)
   pub atMost : length (b .conditions) ≤ mostConditions
   pub long : length (spellBooklet b) ≤ most
+
+-- What goes before the blocks: a text is these lines, within `most` characters, and at most 24 of them begin with A3.
+pub record LinesWithin (most : ℕ) (t : List ℕ) (ls : List (List ℕ)) : Type 0 where
+  pub spells : text ls ≡ t
+  pub lines : Lines ls
+  pub long : length t ≤ most
+  pub atMost : conditionLines ls ≤ mostConditions
 
 -- A text is allowed as a whole when it spells a ship and rows within the limits, and behind them lines that begin with A3.
 abbrev pub AllowedWhole : ℕ → List ℕ → Type 0

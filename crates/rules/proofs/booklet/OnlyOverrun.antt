@@ -9,23 +9,22 @@ use lib.Dec.{leb}
 use lib.ListN.{length, getD, length-append}
 use borrow.Author.Tests.{leb-true, leb-false, eqb-true, eqb-false}
 use Rattle.rules.specs.Numbers.{Bytes}
-use Rattle.rules.specs.Text.{text, Lines}
+use Rattle.rules.specs.Text.{Lines}
 use Rattle.rules.specs.Blocks.{ok, spellBlock, Ship, ship, Row, conditionTag}
-use Rattle.rules.specs.Layout.{Rising, fewestRows, mostRows, mostConditions}
+use Rattle.rules.specs.Layout.{Rising, fewestRows, mostRows}
 use Rattle.rules.specs.Outcome.{refused}
 use Rattle.rules.specs.Walk.{shipFrame, closed}
 use Rattle.rules.specs.Met.{Led, behindRows, lead, Overruns}
-use Rattle.rules.specs.Booklet.{isCondition, conditionLines, rowAt, onlyConditions, behindShip, bookFrames, readWhole}
-use Rattle.rules.specs.Apart.{BeginA3, MetWhole, firstLine, dueRow, behindConditions}
+use Rattle.rules.specs.Booklet.{isCondition, rowAt, onlyConditions, behindShip, bookFrames, readWhole}
+use Rattle.rules.specs.Apart.{BeginA3, LinesWithin, MetWhole, firstLine, dueRow, behindConditions}
 use Rattle.rules.proofs.layout.Fields.{both-true}
 use Rattle.rules.proofs.layout.Parts.{full-length}
-use Rattle.rules.proofs.walk.Outcome.{bind-got}
 use Rattle.rules.proofs.walk.Refusals.{Refusal, given, plain, weaker, bind-refusal, test-refusal, header-refusal, fixedIn-refusal, row-refusal}
 use Rattle.rules.proofs.walk.Frames.{ship-sound}
 use Rattle.rules.proofs.walk.OnlyOverrun.{Two, past-head, rows-snoc}
 use Rattle.rules.proofs.booklet.Counted.{only-a3, only-other, behind-a3, behind-row}
 use Rattle.rules.proofs.booklet.Frames.{row-sound}
-use Rattle.rules.proofs.booklet.WholeText.{countedLines-got}
+use Rattle.rules.proofs.booklet.WholeText.{read-blocks}
 use Rattle.rules.proofs.booklet.Overrun.{frames-overrun}
 
 -- In these lines a line is met that overruns.
@@ -106,11 +105,8 @@ frames-over (l ∷ ls) B =
     bind-refusal _ _ (rw (S .0) at (behind-over ls v [] 2 0 0 (B .2) (S .1) (λ ws R. R) (omega arith) refl refl)) (λ x ex. given))
 
 -- ---- a whole text
-pub two-whole : (most : ℕ) (ls : List (List ℕ)) → Lines ls → length (text ls) ≤ most → conditionLines ls ≤ mostConditions → (ln o : ℕ)
-    → (readWhole most (text ls) ≡ refused 2 ln o) ↔ ((o ≡ 0) × (l : List ℕ) × MetWhole ls ln l × Overruns l)
-unfolding readWhole
-two-whole most ls B c m ln o =
-    let G : readWhole most (text ls) ≡ bookFrames ls = bind-got bookFrames (countedLines-got most ls B c m) in (
-      λ e. let x = frames-over ls B .holds 2 ln o (sym G ∙ e) refl in (x .offset, x .line, x .met, x .overruns),
-      λ x. G ∙ frames-overrun (x .2) (x .3) ∙ ap (refused 2 ln) (sym (x .0)),
-    )
+pub two-whole : (most : ℕ) (t : List ℕ) (ls : List (List ℕ)) → LinesWithin most t ls → (ln o : ℕ) → (readWhole most t ≡ refused 2 ln o) ↔ ((o ≡ 0) × (l : List ℕ) × MetWhole ls ln l × Overruns l)
+two-whole most t ls C ln o = (
+  λ e. let x = frames-over ls (C .lines) .holds 2 ln o (sym (read-blocks most t ls C) ∙ e) refl in (x .offset, x .line, x .met, x .overruns),
+  λ x. read-blocks most t ls C ∙ frames-overrun (x .2) (x .3) ∙ ap (refused 2 ln) (sym (x .0)),
+)

@@ -1,5 +1,6 @@
 -- Every refusal for the whole text has a number from 1 to 6, and one by its blocks a line of the text and offset 0; a condition's refusal has a number from 2 to 6, its own line and an offset inside it, or it is 7 or 8 and has no place.
 use mathlib.Core.Path.{_≡_, refl}
+use mathlib.Core.Logic.{_≢_}
 use mathlib.Core.Bool.{Bool, true, false, _&&_}
 use mathlib.Core.List.{List, [], _∷_}
 use Prim.Native.Nat.{ℕ, _+_, _-_, max, min, _≤_}
@@ -11,7 +12,8 @@ use Rattle.rules.specs.Layout.{fewestRows, mostBytes}
 use Rattle.rules.specs.Walk.{conditionIn}
 use Rattle.rules.specs.Booklet.{isCondition, counted, countedLines, rowAt, onlyConditions, behindShip, bookFrames, readWhole, conditionAt}
 use Rattle.rules.proofs.walk.Heads.{header-splits}
-use Rattle.rules.proofs.walk.Refusals.{Refusal, given, plain, weaker, bind-refusal, test-cases, test-refusal, NumberFrom, At, Between, lines-refusal, header-refusal, inside-refusal, row-refusal, shipFrame-refusal, closed-refusal}
+use Rattle.rules.proofs.walk.Refusals.{Refusal, given, plain, weaker, bind-refusal, test-cases, test-refusal, NumberFrom, At, Between, header-refusal, inside-refusal, row-refusal, shipFrame-refusal, closed-refusal}
+use Rattle.rules.proofs.walk.BadLine.{lines-bad}
 use Rattle.rules.proofs.booklet.Counted.{countedLines-steps, counted-a3, counted-other, only-a3, only-other, behind-a3, behind-row}
 
 -- A number from 2 to 6, from one line to another, and no offset.
@@ -26,18 +28,25 @@ abbrev pub Left : List (List ℕ) → ℕ → ℕ → ℕ → ℕ → Type 0
 Left ls ln n l o = Among (ln + min 1 (length ls) - 1) (ln + length ls - 1) n l o
 
 -- ---- before the blocks
-pub counted-refusal : (ls : List (List ℕ)) (ln n : ℕ) → Refusal (InLines ls ln) (counted ln n ls)
+-- 5 at one of these lines, of which the first has the number ln.
+abbrev Over : List (List ℕ) → ℕ → ℕ → ℕ → ℕ → Type 0
+Over ls ln n l o = (n ≡ 5) × (ln ≤ l) × (l ≤ ln + length ls - 1) × (o ≡ 0)
+
+pub counted-refusal : (ls : List (List ℕ)) (ln n : ℕ) → Refusal (Over ls ln) (counted ln n ls)
 unfolding counted
 counted-refusal [] ln n = given
 counted-refusal (l ∷ ls) ln n = go (λ n. counted-refusal ls (ln + 1) n) (isCondition l) refl
   where
-    go : ((n : ℕ) → Refusal (InLines ls (ln + 1)) (counted (ln + 1) n ls)) → (c : Bool) → isCondition l ≡ c → Refusal (InLines (l ∷ ls) ln) (counted ln n (l ∷ ls))
+    go : ((n : ℕ) → Refusal (Over ls (ln + 1)) (counted (ln + 1) n ls)) → (c : Bool) → isCondition l ≡ c → Refusal (Over (l ∷ ls) ln) (counted ln n (l ∷ ls))
     go H true p = rw (counted-a3 l ls ln n p) (test-refusal _ _ _ _ _ (omega arith) (weaker (λ n l o x. omega arith) (H (n - 1))))
     go H false p = rw (counted-other l ls ln n p) (weaker (λ n l o x. omega arith) (H n))
 
-pub countedLines-refusal : (most : ℕ) (t : List ℕ) → Refusal (λ n l o. NumberFrom 1 n) (countedLines most t)
+-- 1, or the 25th.
+pub countedLines-refusal : (most : ℕ) (t : List ℕ) → Refusal (λ n l o. NumberFrom 1 n × (n ≢ 1 → n ≡ 5)) (countedLines most t)
 countedLines-refusal most t =
-    rw (countedLines-steps most t) (test-refusal _ _ _ _ _ (omega arith) (bind-refusal _ _ (lines-refusal 1 t) (λ ls els. bind-refusal _ _ (weaker (λ n l o x. omega arith) (counted-refusal ls 1 _)) (λ u eu. given))))
+    rw (countedLines-steps most t)
+    (test-refusal _ _ _ _ _ (omega arith, λ h. absurd (h refl)) (bind-refusal _ _ (weaker (λ n l o x. (omega (arith, x .0), λ h. absurd (h (x .0)))) (lines-bad 1 t)) (λ ls els.
+    bind-refusal _ _ (weaker (λ n l o x. (omega arith, λ h. x .0)) (counted-refusal ls 1 _)) (λ u eu. given))))
 
 -- ---- the blocks
 pub rowAt-refusal : (ln k p : ℕ) (l : List ℕ) → Refusal (At 2 ln 0) (rowAt ln k p l)
@@ -72,7 +81,7 @@ bookFrames-refusal (l ∷ ls) =
 
 pub readWhole-refusal : (most : ℕ) (t : List ℕ) → Refusal (λ n l o. NumberFrom 1 n) (readWhole most t)
 unfolding readWhole
-readWhole-refusal most t = bind-refusal _ _ (countedLines-refusal most t) (λ ls els. weaker (λ n l o x. omega arith) (bookFrames-refusal ls))
+readWhole-refusal most t = bind-refusal _ _ (weaker (λ n l o x. x .0) (countedLines-refusal most t)) (λ ls els. weaker (λ n l o x. omega arith) (bookFrames-refusal ls))
 
 -- ---- a condition line
 -- Its refusal stands in it, and before the end of the longest condition.

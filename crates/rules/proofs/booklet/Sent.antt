@@ -99,7 +99,7 @@ module _ (most : ℕ) (t buffer : List ℕ) where
 
     -- 1, and the 25th condition line.
     pub uncounted : {n l o : ℕ} → countedLines most t ≡ refused n l o → Gives most t buffer n reportLength (reportOf (refused n l o) ++ drop reportLength buffer)
-    uncounted e = gives-refusal (countedLines-refusal most t .holds _ _ _ e .1) (past-one ∙ bind-refused _ e)
+    uncounted e = gives-refusal (countedLines-refusal most t .holds _ _ _ e .0 .1) (past-one ∙ bind-refused _ e)
 
     module _ (ls : List (List ℕ)) (e : countedLines most t ≡ got ls) where
       -- 9: 'again for under 209 bytes per condition line'.

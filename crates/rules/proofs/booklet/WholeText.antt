@@ -6,26 +6,20 @@ use Prim.Native.Nat.{ℕ, _≤_}
 use native.Mathlib.Omega.{arith}
 use lib.ListN.{length}
 use borrow.Author.Tests.{leb-true, le-leb}
-use Rattle.rules.specs.Text.{text, Lines}
+use Rattle.rules.specs.Text.{text}
 use Rattle.rules.specs.Outcome.{Ans, refused, got}
-use Rattle.rules.proofs.walk.Outcome.{refused-got, bind-inv, test-inv, bind-got, test-got}
+use Rattle.rules.proofs.walk.Outcome.{refused-got, bind-inv, bind-first, test-inv, bind-got, test-got}
 use Rattle.rules.proofs.layout.Lines.{lines-sound, lines-got}
 use Rattle.rules.specs.Layout.{mostConditions}
-use Rattle.rules.specs.Booklet.{conditionLines, countedLines, Booklet, readWhole}
-use Rattle.rules.specs.Apart.{linesOf, spellBooklet, WholeLimits, AllowedWhole}
+use Rattle.rules.specs.Walk.{linesFrom}
+use Rattle.rules.specs.Booklet.{conditionLines, countedLines, Booklet, bookFrames, readWhole}
+use Rattle.rules.specs.Apart.{linesOf, spellBooklet, WholeLimits, LinesWithin, AllowedWhole}
 use Rattle.rules.proofs.booklet.Counted.{countedLines-steps, counted-sound, counted-got, lines-lead}
 use Rattle.rules.proofs.booklet.Frames.{framed, frames-sound, frames-got, Lines-booklet}
-use Rattle.rules.proofs.booklet.Refusals.{readWhole-refusal}
+use Rattle.rules.proofs.booklet.Refusals.{countedLines-refusal, readWhole-refusal}
 
 -- ---- the lines
--- What a text is whose lines are counted.
-pub record Counted (most : ℕ) (t : List ℕ) (ls : List (List ℕ)) : Type 0 where
-  pub long : length t ≤ most
-  pub spells : text ls ≡ t
-  pub lines : Lines ls
-  pub atMost : conditionLines ls ≤ mostConditions
-
-pub countedLines-sound : (most : ℕ) (t : List ℕ) (ls : List (List ℕ)) → countedLines most t ≡ got ls → Counted most t ls
+pub countedLines-sound : (most : ℕ) (t : List ℕ) (ls : List (List ℕ)) → countedLines most t ≡ got ls → LinesWithin most t ls
 countedLines-sound most t ls e =
     let a = test-inv _ _ _ _ _ (sym (countedLines-steps most t) ∙ e) in
     let b = bind-inv _ _ (a .1) in
@@ -34,8 +28,23 @@ countedLines-sound most t ls e =
     let q : b .0 ≡ ls = cc in
     rw (← q) (record { long = leb-true (length t) most (a .0); spells = L .0; lines = L .1; atMost = counted-sound (b .0) 1 mostConditions (u .0) (u .1) })
 
-pub countedLines-got : (most : ℕ) (ls : List (List ℕ)) → Lines ls → length (text ls) ≤ most → conditionLines ls ≤ mostConditions → countedLines most (text ls) ≡ got ls
-countedLines-got most ls B l m = countedLines-steps most (text ls) ∙ test-got _ _ _ _ (le-leb _ _ l) ∙ bind-got _ (lines-got ls 1 B) ∙ bind-got _ (counted-got ls 1 mostConditions m)
+pub countedLines-got : (most : ℕ) (t : List ℕ) (ls : List (List ℕ)) → LinesWithin most t ls → countedLines most t ≡ got ls
+countedLines-got most t ls C =
+    countedLines-steps most t ∙ test-got _ _ _ _ (le-leb _ _ (C .long)) ∙ bind-got _ (ap (linesFrom 1) (sym (C .spells)) ∙ lines-got ls 1 (C .lines)) ∙ bind-got _ (counted-got ls 1 mostConditions (C .atMost))
+
+-- Then it is read by its blocks.
+pub read-blocks : (most : ℕ) (t : List ℕ) (ls : List (List ℕ)) → LinesWithin most t ls → readWhole most t ≡ bookFrames ls
+unfolding readWhole
+read-blocks most t ls C = bind-got bookFrames (countedLines-got most t ls C)
+
+-- So is every text that is refused for the whole with a number that only a block gets.
+pub lines-of-refused : (most : ℕ) (t : List ℕ) (n l o : ℕ) → readWhole most t ≡ refused n l o → n ≢ 1 → n ≢ 5 → (ls : List (List ℕ)) × LinesWithin most t ls
+unfolding readWhole
+lines-of-refused most t n l o e one five = go (countedLines most t) refl
+  where
+    go : (a : Ans (List (List ℕ))) → countedLines most t ≡ a → (ls : List (List ℕ)) × LinesWithin most t ls
+    go (refused x y z) q = absurd (five (countedLines-refusal most t .holds n l o (bind-first _ bookFrames q e) .1 one))
+    go (got ls) q = (ls, countedLines-sound most t ls q)
 
 -- ---- sound and complete
 pub sound : (most : ℕ) (t : List ℕ) (b : Booklet) → readWhole most t ≡ got b → WholeLimits most b × (spellBooklet b ≡ t)
@@ -49,11 +58,11 @@ sound most t b e =
     (record { hull = F .hull; rising = F .rising; few = F .few; many = F .many; begin = F .begin; some = F .some; atMost = n; long = omega (arith, ap length p, C .long) }, p)
 
 pub complete : (most : ℕ) (b : Booklet) → WholeLimits most b → readWhole most (spellBooklet b) ≡ got b
-unfolding readWhole spellBooklet
+unfolding spellBooklet
 complete most b w =
     let F = framed w in
     let n : conditionLines (linesOf b) ≤ mostConditions = rw (lines-lead (b .ship) (b .rows) (b .conditions) (w .begin)) (w .atMost) in
-    bind-got _ (countedLines-got most (linesOf b) (Lines-booklet b F) (w .long) n) ∙ frames-got b F
+    read-blocks most (spellBooklet b) (linesOf b) (record { spells = refl; lines = Lines-booklet b F; long = w .long; atMost = n }) ∙ frames-got b F
 
 -- ---- read exactly when allowed, and in one way
 pub read-back : (most : ℕ) (t : List ℕ) (a : AllowedWhole most t) → readWhole most t ≡ got (a .0)

@@ -93,7 +93,7 @@ decode-refusal [] ln [] = given
 decode-refusal [] ln (c ∷ p) = plain (omega arith)
 decode-refusal (q ∷ ps) ln p = bind-refusal _ _ (weaker (λ n l o h. omega arith) (unhex-refusal ln p)) (λ b eb. test-refusal _ _ _ _ _ (omega arith) (bind-refusal _ _ (decode-refusal ps (ln + 1) q) (λ r er. given)))
 
-pub lines-refusal : (ln : ℕ) (t : List ℕ) → Refusal (λ n l o. NumberFrom 1 n) (linesFrom ln t)
+lines-refusal : (ln : ℕ) (t : List ℕ) → Refusal (λ n l o. NumberFrom 1 n) (linesFrom ln t)
 unfolding linesFrom
 lines-refusal ln t = decode-refusal (split t .1) ln (split t .0)
 
