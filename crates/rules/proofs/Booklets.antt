@@ -11,25 +11,25 @@ use Rattle.rules.specs.Blocks.{conditionTag, Ship, Row}
 use Rattle.rules.specs.Layout.{Condition, mostCharacters, mostConditions}
 use Rattle.rules.specs.Outcome.{refused, got}
 use Rattle.rules.specs.Walk.{linesFrom}
+use Rattle.rules.specs.Report.{reportLength}
 use Rattle.rules.specs.Met.{lead, Met, Overruns}
 use Rattle.rules.specs.Places.{FramesFill, ConditionFills, SameBefore, lookedAt}
-use Rattle.rules.specs.Report.{reportLength}
 use Rattle.rules.specs.Booklet.{Booklet, readWhole, conditionAt}
 use Rattle.rules.specs.Apart.{linesOf, spellBooklet, AllowedWhole, AllowedLine, LinesWithin, lineAt, alone, respelt, MetWhole}
 use Rattle.rules.specs.Answer.{reportOf, answered, answerAt, answers, answer, inLine, number, written, room}
+use Rattle.rules.proofs.booklet.Refusals.{conditionAt-refusal}
 use Rattle.rules.proofs.booklet.WholeText.{lines-of-refused, whole-iff-allowed, whole-unique}
 use Rattle.rules.proofs.booklet.Conditions.{condition-iff-allowed, condition-unique}
-use Rattle.rules.proofs.booklet.InsideParent.{lines-of-booklet, front-fills, line-fills}
 use Rattle.rules.proofs.booklet.Room as rooms
 use Rattle.rules.proofs.booklet.Reports as reports
-use Rattle.rules.proofs.booklet.Alone as alones
 use Rattle.rules.proofs.booklet.LineOnly.{in-line-only}
+use Rattle.rules.proofs.booklet.Alone as alones
 use Rattle.rules.proofs.booklet.OfOne as ones
+use Rattle.rules.proofs.booklet.PlaceFits.{whole-fits}
+use Rattle.rules.proofs.booklet.InsideParent.{lines-of-booklet, front-fills, line-fills}
 use Rattle.rules.proofs.booklet.OnlyOverrun.{two-whole}
 use Rattle.rules.proofs.booklet.LineOverrun.{two-line}
 use Rattle.rules.proofs.booklet.FirstFault.{whole-fault, fault-in-line}
-use Rattle.rules.proofs.booklet.Refusals.{conditionAt-refusal}
-use Rattle.rules.proofs.booklet.PlaceFits.{whole-fits}
 
 -- ---- which texts are read
 -- A text gets none of 1 to 6 for the whole exactly when it is allowed as a whole.

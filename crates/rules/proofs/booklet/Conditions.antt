@@ -12,14 +12,14 @@ use Rattle.rules.specs.Layout.{Condition, spellCondition, mostBytes, Con
 use Rattle.rules.specs.Outcome.{Ans, refused, got, _>>=_}
 use Rattle.rules.specs.Walk.{conditionIn}
 use Rattle.rules.specs.Report.{Judgement}
-use Rattle.rules.proofs.walk.Outcome.{refused-got, bind-inv, bind-first, test-inv, bind-got, bind-refused, test-got}
-use Rattle.rules.proofs.walk.Refusals.{Refusal, weaker, bind-refusal}
-use Rattle.rules.proofs.walk.Heads.{header-tag}
-use Rattle.rules.proofs.walk.Conditions.{inside-sound, inside-got}
 use Rattle.rules.specs.Booklet.{conditionAt}
 use Rattle.rules.specs.Apart.{AllowedLine}
 use Rattle.rules.specs.Answer.{judged, answerAt, inLine}
+use Rattle.rules.proofs.walk.Outcome.{refused-got, bind-inv, bind-first, test-inv, bind-got, bind-refused, test-got}
+use Rattle.rules.proofs.walk.Heads.{header-tag}
+use Rattle.rules.proofs.walk.Conditions.{inside-sound, inside-got}
 use Rattle.rules.proofs.walk.Frames.{frame-sound, frame-got}
+use Rattle.rules.proofs.walk.Refusals.{Refusal, weaker, bind-refusal}
 use Rattle.rules.proofs.answer.Placed.{judged-refusal}
 use Rattle.rules.proofs.booklet.Refusals.{conditionAt-refusal}
 use Rattle.rules.proofs.booklet.Relined.{relined, condition-relined}
@@ -41,7 +41,7 @@ condition-got ln c L =
     bind-got _ (frame-got ln conditionTag (spellCondition c) (omega (arith, L .long))) ∙ test-got _ _ _ _ refl ∙ test-got _ _ _ _ (le-leb _ _ (L .long)) ∙ inside-got ln c L
 
 -- An allowed line says one condition only.
-pub line-got : (ln : ℕ) (l : List ℕ) (a : AllowedLine l) → conditionAt ln l ≡ got (a .0)
+line-got : (ln : ℕ) (l : List ℕ) (a : AllowedLine l) → conditionAt ln l ≡ got (a .0)
 line-got ln l a = rw (← (a .2)) (condition-got ln (a .0) (a .1))
 
 pub condition-unique : (l : List ℕ) (a b : AllowedLine l) → a .0 ≡ b .0

@@ -12,9 +12,9 @@ use Rattle.rules.specs.Layout.{fewestRows, mostConditions}
 use Rattle.rules.specs.Outcome.{got, test, _>>=_, _>>_}
 use Rattle.rules.specs.Walk.{linesFrom, closed}
 use Rattle.rules.specs.Met.{behindRows, lead}
-use Rattle.rules.proofs.walk.Outcome.{test-inv, test-got}
 use Rattle.rules.specs.Booklet.{isCondition, conditionLines, counted, countedLines, rowAt, onlyConditions, behindShip}
 use Rattle.rules.specs.Apart.{BeginA3}
+use Rattle.rules.proofs.walk.Outcome.{test-inv, test-got}
 
 -- ---- one line further
 module _ (l : List ℕ) (ls : List (List ℕ)) where
@@ -86,7 +86,7 @@ counted-got (l ∷ ls) ln n h = go (λ n h. counted-got ls (ln + 1) n h) (isCond
 pub begins : (l : List ℕ) → getD l 0 0 ≡ conditionTag → isCondition l ≡ true
 begins l e = eq-eqb _ _ e
 
-pub lines-begin : (ls : List (List ℕ)) → BeginA3 ls → conditionLines ls ≡ length ls
+lines-begin : (ls : List (List ℕ)) → BeginA3 ls → conditionLines ls ≡ length ls
 unfolding BeginA3 conditionLines
 lines-begin [] B = refl
 lines-begin (l ∷ ls) B = lines-a3 l ls (begins l (B .0)) ∙ ap suc (lines-begin ls (B .2))

@@ -14,12 +14,12 @@ use Rattle.rules.specs.Layout.{Rising, fewestRows, mostRows}
 use Rattle.rules.specs.Outcome.{got}
 use Rattle.rules.specs.Walk.{rowIn, closed}
 use Rattle.rules.specs.Met.{behindRows}
-use Rattle.rules.proofs.walk.Outcome.{refused-got, bind-inv, test-inv, bind-got, test-got}
-use Rattle.rules.proofs.layout.Fields.{length-fits, ship-lawful, row-lawful, both-true}
-use Rattle.rules.proofs.walk.Heads.{Bytes-fixed}
-use Rattle.rules.proofs.walk.Frames.{frame-got, fixedIn-sound, fixedIn-got, ship-sound, ship-got}
 use Rattle.rules.specs.Booklet.{isCondition, rowAt, onlyConditions, Behind, behindShip, Booklet, bookFrames}
 use Rattle.rules.specs.Apart.{BeginA3, linesOf, WholeLimits}
+use Rattle.rules.proofs.layout.Fields.{length-fits, ship-lawful, row-lawful, both-true}
+use Rattle.rules.proofs.walk.Outcome.{refused-got, bind-inv, test-inv, bind-got, test-got}
+use Rattle.rules.proofs.walk.Heads.{Bytes-fixed}
+use Rattle.rules.proofs.walk.Frames.{frame-got, fixedIn-sound, fixedIn-got, ship-sound, ship-got}
 use Rattle.rules.proofs.booklet.Counted.{begins, only-a3, only-other, behind-a3, behind-row}
 
 -- ---- a row

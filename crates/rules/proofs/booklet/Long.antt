@@ -8,14 +8,14 @@ use lib.ListN.{length, getD}
 use borrow.Author.Tests.{eqb-true, eqb-false, eq-eqb, lt-ltb}
 use mathlib.Core.Bool.{Bool, true, false}
 use Rattle.rules.specs.Blocks.{Layout, size, ship, row}
-use Rattle.rules.specs.Walk.{fixedIn, shipFrame}
 use Rattle.rules.specs.Layout.{mostBytes, mostRows}
 use Rattle.rules.specs.Outcome.{refused}
+use Rattle.rules.specs.Walk.{fixedIn, shipFrame}
 use Rattle.rules.specs.Parts.{be2, headAt}
-use Rattle.rules.proofs.walk.Outcome.{bind-got, bind-refused, test-got}
-use Rattle.rules.proofs.layout.Parts.{header-overrun, header-block}
-use Rattle.rules.proofs.walk.FrameExits.{condition-longer, condition-over, fixedIn-longer, fixedIn-length, ship-in, row-refused}
 use Rattle.rules.specs.Booklet.{rowAt, conditionAt}
+use Rattle.rules.proofs.layout.Parts.{header-overrun, header-block}
+use Rattle.rules.proofs.walk.Outcome.{bind-got, bind-refused, test-got}
+use Rattle.rules.proofs.walk.FrameExits.{condition-longer, condition-over, fixedIn-longer, fixedIn-length, ship-in, row-refused}
 
 -- A block of fixed size is never so long.
 fixedIn-long : {A : Type 0} (ln t : ℕ) (L : Layout A) (l : List ℕ) → 3 + mostBytes < length l → size (L .fields) ≤ mostBytes → 3 + be2 l 1 ≤ length l → fixedIn ln L (headAt t (be2 l 1) l) ≡ refused 3 ln 0

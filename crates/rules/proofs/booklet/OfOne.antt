@@ -9,17 +9,17 @@ use Rattle.rules.specs.Layout.{Condition, Rising, fewestRows, mostRows, 
 use Rattle.rules.specs.Outcome.{Ans, refused, got, _>>=_}
 use Rattle.rules.specs.Walk.{closed, after, tail, readFrames, read}
 use Rattle.rules.specs.Met.{Led, behindRows, lead}
+use Rattle.rules.specs.Booklet.{Booklet, readWhole, conditionAt}
+use Rattle.rules.specs.Apart.{BeginA3, linesOf, spellBooklet, lineAt, readingAt}
+use Rattle.rules.specs.Answer.{answered, answerAt, answersFrom, answers}
 use Rattle.rules.proofs.walk.Outcome.{bind-got, bind-refused, bind-cong, bind-bind}
 use Rattle.rules.proofs.walk.Frames.{ship-got, tail-row}
 use Rattle.rules.proofs.walk.WholeText.{read-lines}
 use Rattle.rules.proofs.answer.Steps.{answered-refused, answered-read}
-use Rattle.rules.specs.Booklet.{Booklet, readWhole, conditionAt}
-use Rattle.rules.specs.Apart.{BeginA3, linesOf, spellBooklet, lineAt, readingAt}
-use Rattle.rules.specs.Answer.{answered, answerAt, answersFrom, answers}
-use Rattle.rules.proofs.booklet.AsFrames.{frame-condition}
-use Rattle.rules.proofs.booklet.WholeText.{sound}
 use Rattle.rules.proofs.booklet.Frames.{framed, Lines-booklet}
+use Rattle.rules.proofs.booklet.WholeText.{sound}
 use Rattle.rules.proofs.booklet.Conditions.{answer-steps}
+use Rattle.rules.proofs.booklet.AsFrames.{frame-condition}
 
 tail-one : (l : List ℕ) (ln k p : ℕ) → getD l 0 0 ≡ conditionTag → fewestRows ≤ k → tail (l ∷ []) ln k p ≡ (conditionAt ln l >>= λ c. got (record { rows = []; condition = c }))
 unfolding tail after closed

@@ -19,8 +19,8 @@ use Rattle.rules.specs.Booklet.{isCondition, rowAt, onlyConditions, behi
 use Rattle.rules.specs.Apart.{BeginA3, LinesWithin, MetWhole, firstLine, dueRow, behindConditions}
 use Rattle.rules.proofs.layout.Fields.{both-true}
 use Rattle.rules.proofs.layout.Parts.{full-length}
-use Rattle.rules.proofs.walk.Refusals.{Refusal, given, plain, weaker, bind-refusal, test-refusal, header-refusal, fixedIn-refusal, row-refusal}
 use Rattle.rules.proofs.walk.Frames.{ship-sound}
+use Rattle.rules.proofs.walk.Refusals.{Refusal, given, plain, weaker, bind-refusal, test-refusal, header-refusal, fixedIn-refusal, row-refusal}
 use Rattle.rules.proofs.walk.OnlyOverrun.{Two, past-head, rows-snoc}
 use Rattle.rules.proofs.booklet.Counted.{only-a3, only-other, behind-a3, behind-row}
 use Rattle.rules.proofs.booklet.Frames.{row-sound}

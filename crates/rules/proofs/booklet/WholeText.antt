@@ -7,13 +7,13 @@ use native.Mathlib.Omega.{arith}
 use lib.ListN.{length}
 use borrow.Author.Tests.{leb-true, le-leb}
 use Rattle.rules.specs.Text.{text}
-use Rattle.rules.specs.Outcome.{Ans, refused, got}
-use Rattle.rules.proofs.walk.Outcome.{refused-got, bind-inv, bind-first, test-inv, bind-got, test-got}
-use Rattle.rules.proofs.layout.Lines.{lines-sound, lines-got}
 use Rattle.rules.specs.Layout.{mostConditions}
+use Rattle.rules.specs.Outcome.{Ans, refused, got}
 use Rattle.rules.specs.Walk.{linesFrom}
 use Rattle.rules.specs.Booklet.{conditionLines, countedLines, Booklet, bookFrames, readWhole}
 use Rattle.rules.specs.Apart.{linesOf, spellBooklet, WholeLimits, LinesWithin, AllowedWhole}
+use Rattle.rules.proofs.layout.Lines.{lines-sound, lines-got}
+use Rattle.rules.proofs.walk.Outcome.{refused-got, bind-inv, bind-first, test-inv, bind-got, test-got}
 use Rattle.rules.proofs.booklet.Counted.{countedLines-steps, counted-sound, counted-got, lines-lead}
 use Rattle.rules.proofs.booklet.Frames.{framed, frames-sound, frames-got, Lines-booklet}
 use Rattle.rules.proofs.booklet.Refusals.{countedLines-refusal, readWhole-refusal}
@@ -65,7 +65,7 @@ complete most b w =
     read-blocks most (spellBooklet b) (linesOf b) (record { spells = refl; lines = Lines-booklet b F; long = w .long; atMost = n }) ∙ frames-got b F
 
 -- ---- read exactly when allowed, and in one way
-pub read-back : (most : ℕ) (t : List ℕ) (a : AllowedWhole most t) → readWhole most t ≡ got (a .0)
+read-back : (most : ℕ) (t : List ℕ) (a : AllowedWhole most t) → readWhole most t ≡ got (a .0)
 read-back most t a = rw (← (a .2)) (complete most (a .0) (a .1))
 
 pub whole-unique : (most : ℕ) (t : List ℕ) (a b : AllowedWhole most t) → a .0 ≡ b .0
