@@ -7,6 +7,7 @@ use Prim.Native.Nat.{ℕ, _+_, _*_, max, _≤_, _<_}
 use native.Mathlib.Omega.{arith}
 use lib.ListN.{length, take, drop, getD, length-set}
 use Rattle.rules.specs.Numbers.{Bytes}
+use Rattle.rules.specs.Text.{text, Lines}
 use Rattle.rules.specs.Blocks.{conditionTag, Ship, Row}
 use Rattle.rules.specs.Layout.{Condition, mostCharacters, mostConditions}
 use Rattle.rules.specs.Outcome.{refused, got}
@@ -14,7 +15,7 @@ use Rattle.rules.specs.Walk.{linesFrom}
 use Rattle.rules.specs.Report.{reportLength}
 use Rattle.rules.specs.Met.{lead, Met, Overruns}
 use Rattle.rules.specs.Places.{FramesFill, ConditionFills, SameBefore, lookedAt}
-use Rattle.rules.specs.Booklet.{Booklet, readWhole, conditionAt}
+use Rattle.rules.specs.Booklet.{conditionLines, Booklet, readWhole, conditionAt}
 use Rattle.rules.specs.Apart.{linesOf, spellBooklet, AllowedWhole, AllowedLine, LinesWithin, lineAt, alone, respelt, MetWhole}
 use Rattle.rules.specs.Answer.{reportOf, answered, answerAt, answers, answer, inLine, number, written, room}
 use Rattle.rules.proofs.booklet.Refusals.{conditionAt-refusal}
@@ -30,6 +31,7 @@ use Rattle.rules.proofs.booklet.InsideParent.{lines-of-booklet, front-f
 use Rattle.rules.proofs.booklet.OnlyOverrun.{two-whole}
 use Rattle.rules.proofs.booklet.LineOverrun.{two-line}
 use Rattle.rules.proofs.booklet.FirstFault.{whole-fault, fault-in-line}
+use Rattle.rules.proofs.booklet.TwentyFifth.{twenty-fifth}
 
 -- ---- which texts are read
 -- A text gets none of 1 to 6 for the whole exactly when it is allowed as a whole.
@@ -127,6 +129,11 @@ pub of-one : (most : ℕ) (t : List ℕ) (b : Booklet) → most ≤ mostCharacte
 of-one most t b m e one = ones.of-one most t b e m one
 
 -- ---- what is refused
+-- A text of lines within its limit with a 25th condition line is refused with 5 there for the whole, whatever else it holds.
+pub five-at-25th : (most : ℕ) (front : List (List ℕ)) (l : List ℕ) (later : List (List ℕ)) → Lines (front ++ (l ∷ later)) → length (text (front ++ (l ∷ later))) ≤ most → conditionLines front ≡ mostConditions → getD l 0 0 ≡ conditionTag
+    → readWhole most (text (front ++ (l ∷ later))) ≡ refused 5 (1 + length front) 0
+five-at-25th most front l later B m c a = twenty-fifth most front l later B m c a
+
 -- A text of lines within its limit, of which at most 24 begin with A3, is refused with 2 for the whole exactly where the reading comes to a line whose frame runs past it, or that has one or two bytes:
 -- the first line; one behind the ship's and some rows' that is no condition line in its place; one behind condition lines that is none. The offset is 0.
 pub two-for-the-whole : (most : ℕ) (t : List ℕ) (ls : List (List ℕ)) → LinesWithin most t ls → (ln o : ℕ) → (readWhole most t ≡ refused 2 ln o) ↔ ((o ≡ 0) × (l : List ℕ) × MetWhole ls ln l × Overruns l)

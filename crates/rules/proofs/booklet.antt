@@ -19,3 +19,4 @@ pub mod Overrun
 pub mod OnlyOverrun
 pub mod LineOverrun
 pub mod FirstFault
+pub mod TwentyFifth

@@ -1,4 +1,4 @@
--- Refusal 2 for the whole: exactly where the reading of ship, rows and misplaced lines comes to a line that overruns.
+-- Where the reading of ship, rows and misplaced lines comes to a line that overruns, the whole text is refused with 2 there.
 use mathlib.Core.Path.{_≡_, refl, _∙_}
 use mathlib.Core.Logic.{_≢_}
 use mathlib.Core.Bool.{Bool, true, false, _&&_}

@@ -1,4 +1,4 @@
--- Every refusal for the whole text has a number from 1 to 6, and one by its blocks a line of the text and offset 0; a condition's refusal has a number from 2 to 6, its own line and an offset inside it, or it is 7 or 8 and has no place.
+-- Every refusal for the whole text has a number from 1 to 6, and one by its blocks a line of the text and offset 0; a condition's refusal has a number from 2 to 6, its own line and an offset inside it.
 use mathlib.Core.Path.{_≡_, refl}
 use mathlib.Core.Logic.{_≢_}
 use mathlib.Core.Bool.{Bool, true, false, _&&_}
