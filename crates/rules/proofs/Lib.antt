@@ -4,5 +4,7 @@ pub mod walk
 pub mod loading
 pub mod criteria
 pub mod answer
+pub mod booklet
 pub mod bench
 pub mod Reading
+pub mod Booklets

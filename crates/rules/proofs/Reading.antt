@@ -92,7 +92,7 @@ pub kind-decides-surface : (t : Tank) (F G : Entries) → MadeCargo t F G → (s
     × (sumLeaves freeSurface F + freeSurfaceOf (tank cargo) t ≡ sumLeaves freeSurface G + freeSurfaceOf (tank ordinary) t)
 kind-decides-surface t F G made = sums-made-cargo made
 
--- A C5 is tested as a C3. Take a text of lines within 12,000 characters and a block in it that begins with C3: a frame, the first block of a condition that fills its line, or one further on where blocks stand end to end, in groups or not. It may be well or ill, and so may what stands before it and behind it. Let it begin with C5:
+-- A C5 is tested as a C3. Take a text of lines within 180,000 characters and a block in it that begins with C3: a frame, the first block of a condition that fills its line, or one further on where blocks stand end to end, in groups or not. It may be well or ill, and so may what stands before it and behind it. Let it begin with C5:
 -- the one text is refused exactly when the other is, with the same number, line and offset.
 pub tested-as-tank : (ls ls′ : List (List ℕ)) → RetaggedLines ls ls′ → Lines ls → length (text ls) ≤ mostCharacters → (n l o : ℕ) → (read (text ls) ≡ refused n l o) ↔ (read (text ls′) ≡ refused n l o)
 tested-as-tank ls ls′ retagged L h = refused-alike retagged L h
@@ -108,7 +108,7 @@ pub every-tank-retagged : (s : List ℕ) (r : Reading) → read s ≡ got r → 
 every-tank-retagged s r e t G made = retagged-lines s r e G made
 
 -- ---- timber on deck
--- A C6 is tested as a C1. Take a text of lines within 12,000 characters and a block in it that begins with C1: a frame, the first block of a condition that fills its line, or one further on where blocks stand end to end, in groups or not. It may be well or ill, and so may what stands before it and behind it. Let it begin with C6:
+-- A C6 is tested as a C1. Take a text of lines within 180,000 characters and a block in it that begins with C1: a frame, the first block of a condition that fills its line, or one further on where blocks stand end to end, in groups or not. It may be well or ill, and so may what stands before it and behind it. Let it begin with C6:
 -- the one text is refused exactly when the other is, with the same number, line and offset.
 pub tested-as-weather : (ls ls′ : List (List ℕ)) → TimberLines ls ls′ → Lines ls → length (text ls) ≤ mostCharacters → (n l o : ℕ) → (read (text ls) ≡ refused n l o) ↔ (read (text ls′) ≡ refused n l o)
 tested-as-weather ls ls′ other L h = weathers.refused-alike other L h
@@ -129,7 +129,7 @@ pub every-timber-weather : (s : List ℕ) (r : Reading) → read s ≡ got r →
 every-timber-weather s r e c = weathers.timber-lines s r e c
 
 -- ---- what is refused
--- A text of lines within 12,000 characters is refused with 2 at a line and an offset exactly where a block is met there whose length runs past its parent, or one or two bytes where a block would begin.
+-- A text of lines within 180,000 characters is refused with 2 at a line and an offset exactly where a block is met there whose length runs past its parent, or one or two bytes where a block would begin.
 pub two-iff-overrun : (ls : List (List ℕ)) → Lines ls → length (text ls) ≤ mostCharacters → (ln o : ℕ) → (read (text ls) ≡ refused 2 ln o) ↔ ((left : List ℕ) × Met ls ln o left × Overruns left)
 two-iff-overrun ls B l ln o = two-overrun ls B l ln o
 
@@ -145,7 +145,7 @@ overrun-never-read ls ln o left B l m v = not-both (text ls) 2 ln o (overrun-ref
 pub drawing-is-refused : read drawing ≡ refused 2 4 21
 drawing-is-refused = drawing-refused
 
--- A refusal depends on nothing behind the block that it names. Two texts of lines within 12,000 characters have the same lines before the one that is named; that line has one length in both (it is its frame's parent)
+-- A refusal depends on nothing behind the block that it names. Two texts of lines within 180,000 characters have the same lines before the one that is named; that line has one length in both (it is its frame's parent)
 -- and the same bytes up to the end of the named block (for 2, 4 and 3: of its head); all that stands behind, in the line and in further lines, may differ: the refusal is the same.
 -- Left out is 5 with no A3: it names no block but the text's end, and a further line would change it. Every other 5 stands in the line of an A3. Of 1 the next promise speaks.
 pub first-fault : (front later later′ : List (List ℕ)) (l l′ : List ℕ) (n o : ℕ) → Lines (front ++ (l ∷ later)) → length (text (front ++ (l ∷ later))) ≤ mostCharacters
@@ -153,7 +153,7 @@ pub first-fault : (front later later′ : List (List ℕ)) (l l′ : List ℕ) (
     → read (text (front ++ (l ∷ later))) ≡ refused n (1 + length front) o → read (text (front ++ (l′ ∷ later′))) ≡ refused n (1 + length front) o
 first-fault front later later′ l l′ n o B c B′ c′ A five e = fault-stands front later later′ l l′ n o B c B′ c′ A five e
 
--- Nor does 1 depend on what stands behind the line that it names, within 12,000 characters: behind lines, characters that are no line, an LF and anything are refused with 1 there.
+-- Nor does 1 depend on what stands behind the line that it names, within 180,000 characters: behind lines, characters that are no line, an LF and anything are refused with 1 there.
 pub first-bad-line : (front : List (List ℕ)) (p rest : List ℕ) → Lines front → NoLine p → length (text front ++ (p ++ (LF ∷ rest))) ≤ mostCharacters → read (text front ++ (p ++ (LF ∷ rest))) ≡ refused 1 (1 + length front) 0
 first-bad-line front p rest B N l = bad-line front p rest B N l
 
@@ -161,20 +161,20 @@ first-bad-line front p rest B N l = bad-line front p rest B N l
 pub first-open-line : (front : List (List ℕ)) (p : List ℕ) → Lines front → NoLF p → 0 < length p → length (text front ++ p) ≤ mostCharacters → read (text front ++ p) ≡ refused 1 (1 + length front) 0
 first-open-line front p B N s l = open-line front p B N s l
 
--- And nothing else is: a text within 12,000 characters is refused with 1 exactly where it is lines and behind them no line, at that line's number and offset 0.
+-- And nothing else is: a text within 180,000 characters is refused with 1 exactly where it is lines and behind them no line, at that line's number and offset 0.
 pub one-iff-no-line : (t : List ℕ) → length t ≤ mostCharacters → (l o : ℕ) → (read t ≡ refused 1 l o) ↔ ((o ≡ 0) × FirstNoLine t l)
 one-iff-no-line t c l o = one-no-line t c l o
 
--- A text is refused with 1 at line 0 and offset 0 exactly when it is over 12,000 characters.
+-- A text is refused with 1 at line 0 and offset 0 exactly when it is over 180,000 characters.
 pub one-iff-too-long : (t : List ℕ) → (read t ≡ refused 1 0 0) ↔ (mostCharacters < length t)
 one-iff-too-long t = one-too-long t
 
--- Every text that is refused with another number than 1 is lines, within 12,000 characters: so the promises above that ask for these leave none of them out.
+-- Every text that is refused with another number than 1 is lines, within 180,000 characters: so the promises above that ask for these leave none of them out.
 pub lines-before-blocks : (t : List ℕ) (n l o : ℕ) → read t ≡ refused n l o → n ≢ 1 → (ls : List (List ℕ)) × Lines ls × (text ls ≡ t) × (length t ≤ mostCharacters)
 lines-before-blocks t n l o e h = lines-unless-one t n l o e h
 
 -- ---- where a refusal stands
--- Every refusal of a text has a number from 1 to 8, and its place lies within the text. For 1 it is one of the text's own lines, with offset 0, or line 0 and offset 0 where the text is over 12,000 characters.
+-- Every refusal of a text has a number from 1 to 8, and its place lies within the text. For 1 it is one of the text's own lines, with offset 0, or line 0 and offset 0 where the text is over 180,000 characters.
 -- For 2 to 6 it is a byte of one of the text's own lines; for 5 also line 0 and offset 0 where the text is empty. For 7 and 8 it is line 0 and offset 0.
 pub place-within : (t : List ℕ) (n l o : ℕ) → answered t ≡ refused n l o → Placed t n l o
 place-within t n l o e = places.place-within t n l o e

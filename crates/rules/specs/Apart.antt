@@ -1,15 +1,16 @@
 -- 'Demand 3 then speaks of ship, rows and each condition apart' (request 3): which texts are allowed as a whole, and which condition lines are, with no reader.
 use mathlib.Core.Path.{_≡_}
+use mathlib.Core.Logic.{_≢_}
 use mathlib.Core.Bool.{true}
-use mathlib.Core.List.{List, [], _∷_}
-use Prim.Native.Nat.{ℕ, _≤_}
+use mathlib.Core.List.{List, [], _∷_, _++_}
+use Prim.Native.Nat.{ℕ, _+_, _≤_}
 use lib.ListN.{length, getD, set}
 use Rattle.rules.specs.Numbers.{Bytes}
-use Rattle.rules.specs.Text.{text}
-use Rattle.rules.specs.Blocks.{block, ok, ship, conditionTag}
+use Rattle.rules.specs.Text.{text, Lines}
+use Rattle.rules.specs.Blocks.{block, ok, Ship, ship, Row, conditionTag}
 use Rattle.rules.specs.Layout.{Condition, Reading, spellCondition, Rising, fewestRows, mostRows, mostConditions, ConditionLimits}
-use Rattle.rules.specs.Met.{lead}
-use Rattle.rules.specs.Booklet.{Booklet}
+use Rattle.rules.specs.Met.{Led, lead}
+use Rattle.rules.specs.Booklet.{conditionLines, Booklet}
 
 -- Lines that begin with A3, whatever else they hold.
 unfoldable pub BeginA3 : List (List ℕ) → Type 0
@@ -32,6 +33,13 @@ pub record WholeLimits (most : ℕ) (b : Booklet) : Type 0 where
   pub some : 1 ≤ length (b .conditions)
   pub atMost : length (b .conditions) ≤ mostConditions
   pub long : length (spellBooklet b) ≤ most
+
+-- What goes before the blocks: a text is these lines, within `most` characters, and at most 24 of them begin with A3.
+pub record LinesWithin (most : ℕ) (t : List ℕ) (ls : List (List ℕ)) : Type 0 where
+  pub spells : text ls ≡ t
+  pub lines : Lines ls
+  pub long : length t ≤ most
+  pub atMost : conditionLines ls ≤ mostConditions
 
 -- A text is allowed as a whole when it spells a ship and rows within the limits, and behind them lines that begin with A3.
 abbrev pub AllowedWhole : ℕ → List ℕ → Type 0
@@ -56,3 +64,14 @@ alone b l = record { ship = b .ship; rows = b .rows; conditions = l ∷ [] }
 -- The booklet with another line in the place of its condition line k.
 abbrev pub respelt : Booklet → ℕ → List ℕ → Booklet
 respelt b k l = record { ship = b .ship; rows = b .rows; conditions = set (b .conditions) k l }
+
+-- ---- which lines the reading of a text as a whole comes to
+-- `MetWhole ls ln l`: in the lines ls, of which at most 24 begin with A3, line ln is looked at for its frame, and it has the bytes l. What stands behind it may be anything.
+pub data MetWhole : List (List ℕ) → ℕ → List ℕ → Type 0 where
+  -- the first line
+  firstLine : (l : List ℕ) (later : List (List ℕ)) → MetWhole (l ∷ later) 1 l
+  -- a line behind the ship's and some rows' that is no condition line, or one before its place
+  dueRow : (s : Ship) (vs : List Row) (l : List ℕ) (later : List (List ℕ)) → Led s vs → (fewestRows ≤ length vs → getD l 0 0 ≢ conditionTag) → MetWhole (lead s vs (l ∷ later)) (2 + length vs) l
+  -- a line behind condition lines, whatever these hold, that is none
+  behindConditions : (s : Ship) (vs : List Row) (cs : List (List ℕ)) (l : List ℕ) (later : List (List ℕ)) → Led s vs → fewestRows ≤ length vs → BeginA3 cs → 1 ≤ length cs → getD l 0 0 ≢ conditionTag
+      → MetWhole (lead s vs (cs ++ (l ∷ later))) (2 + length vs + length cs) l

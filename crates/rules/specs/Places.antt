@@ -67,7 +67,7 @@ pub data LineAt : List ℕ → ℕ → List ℕ → Type 0 where
 
 -- `Placed t n l o`: where the text t is refused with n, line l and offset o may be named. Nothing else may. (9 is of the buffer, and not of the text.)
 pub data Placed (t : List ℕ) : ℕ → ℕ → ℕ → Type 0 where
-  -- 1: 'over 12,000 characters (line 0)'
+  -- 1: over 180,000 characters (request 3), at line 0
   tooLong : mostCharacters < length t → Placed t 1 0 0
   -- 1: one of the text's own lines
   atLine : {l : ℕ} {p : List ℕ} → length t ≤ mostCharacters → LineAt t l p → Placed t 1 l 0

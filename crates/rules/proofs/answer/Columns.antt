@@ -6,8 +6,8 @@ use Prim.Native.Nat.{ℕ, zero, suc, _+_, _-_, _*_, _≤_, _<_}
 use native.Mathlib.Omega.{arith}
 use lib.IntN.{ℤ, pos}
 use lib.Dec.{eqb}
-use lib.ListN.{length, take, drop, getD, length-drop, length-map}
-use lib.Seq.{take-at, take-append-le, drop-append-le, drop-append-add, drop-drop}
+use lib.ListN.{length, take, drop, getD, length-drop, length-map, List·getD-map}
+use lib.Seq.{take-append-le, drop-append-le, drop-append-add, drop-drop}
 use Rattle.rules.specs.Numbers.{digits, twos, Bytes}
 use Rattle.rules.specs.Text.{LF, hex}
 use Rattle.rules.specs.Blocks.{block}
@@ -16,7 +16,7 @@ use Rattle.rules.specs.Walk.{unhex}
 use Rattle.rules.specs.Columns.{characters, figureIn, slotOf, verdictIn}
 use Rattle.rules.proofs.layout.Lines.{length-hex, unhex-got}
 use Rattle.rules.proofs.layout.Numbers.{length-digits}
-use Rattle.rules.proofs.answer.Length.{frame-length}
+use Rattle.rules.proofs.answer.Length.{sized-part, sized-map, frame-length}
 
 -- ---- two characters to a byte
 hex-drop : (n : ℕ) (s : List ℕ) → drop (2 * n) (hex s) ≡ hex (drop n s)
@@ -37,15 +37,6 @@ hex-part s rest a n h =
     rw (drop-append-le (2 * a) (hex s) rest (omega (arith, length-hex s)), hex-drop a s, take-append-le (2 * n) (hex (drop a s)) rest (omega (arith, length-hex (drop a s), length-drop a s)))
     (hex-take n (drop a s))
 
--- ---- parts of one size
-concat-part : {A : Type 0} (f : A → List ℕ) (m : ℕ) → ((x : A) → length (f x) ≡ m) → (d : A) (xs : List A) (i : ℕ) → i < length xs → take m (drop (m * i) (concat (map f xs))) ≡ f (getD xs i d)
-unfolding concat
-concat-part f m size d [] i h = absurd (omega arith)
-concat-part f m size d (x ∷ xs) zero h = let e : m * 0 ≡ 0 = omega arith in rw e (take-at (f x) (concat (map f xs)) m (size x))
-concat-part f m size d (x ∷ xs) (suc i) h =
-    let e : m * suc i ≡ length (f x) + m * i = omega (arith, size x) in
-    rw (e, drop-append-add (f x) (concat (map f xs)) (m * i)) (concat-part f m size d xs i (omega arith))
-
 -- One byte.
 one-at : (xs ys : List ℕ) (i : ℕ) → i < length xs → take 1 (drop i (xs ++ ys)) ≡ getD xs i 0 ∷ []
 one-at [] ys i h = absurd (omega arith)
@@ -57,6 +48,10 @@ unfolding Bytes
 hex-one x y h g e = let q = sym (unhex-got 0 (x ∷ []) (h, tt)) ∙ (ap (unhex 0) e ∙ unhex-got 0 (y ∷ []) (g, tt)) in let z : x ≡ y = cc in z
 
 -- ---- the columns
+-- A figure in its eight bytes.
+abbrev eight-bytes : ℤ → List ℕ
+eight-bytes z = digits 8 (twos z)
+
 -- What stands behind a report does not touch them.
 pub column-front : (s rest : List ℕ) (at n : ℕ) → at + n ≤ length s → characters at n (s ++ rest) ≡ characters at n s
 column-front s rest at n h = rw (drop-append-le at s rest (omega arith)) (take-append-le n (drop at s) rest (omega (arith, length-drop at s)))
@@ -74,7 +69,7 @@ module _ (number line offset : ℕ) (verdicts : List ℕ) (figures : List ℤ) (
 
   -- Behind the head stand the verdicts, and then the figures.
   abbrev G : List ℕ
-  G = concat (map (λ z. digits 8 (twos z)) figures)
+  G = concat (map eight-bytes figures)
 
   verdicts-behind : drop 8 frame ≡ verdicts ++ G
   unfolding block reportBody digits
@@ -88,8 +83,8 @@ module _ (number line offset : ℕ) (verdicts : List ℕ) (figures : List ℤ) (
   pub figure-column : (i : ℕ) → i < 11 → figureIn i (reportLine number line offset verdicts figures) ≡ hex (digits 8 (twos (getD figures i (pos 0))))
   figure-column i h =
       let e : 32 + 16 * i ≡ 2 * (16 + 8 * i) = omega arith in
-      let s = concat-part (λ z. digits 8 (twos z)) 8 (λ z. length-digits 8 (twos z)) (pos 0) figures i (omega arith) in
-      rw e (column (16 + 8 * i) 8 (omega arith) ∙ ap (λ (s : List ℕ). hex (take 8 s)) (figure-behind i) ∙ ap hex s)
+      let s = sized-part 8 (map eight-bytes figures) (sized-map eight-bytes 8 (λ z. length-digits 8 (twos z)) figures) (eight-bytes (pos 0)) i (omega (arith, length-map figures eight-bytes)) in
+      rw e (column (16 + 8 * i) 8 (omega arith) ∙ ap (λ (s : List ℕ). hex (take 8 s)) (figure-behind i) ∙ ap hex (s ∙ List·getD-map eight-bytes figures i (pos 0)))
 
   pub verdict-column : (i : ℕ) → i < 8 → verdictIn (suc i) (reportLine number line offset verdicts figures) ≡ hex (getD verdicts i 0 ∷ [])
   verdict-column i h =

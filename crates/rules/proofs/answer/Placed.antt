@@ -2,29 +2,30 @@
 use mathlib.Core.Path.{_≡_, refl}
 use mathlib.Core.Logic.{_⊎_, inl, inr}
 use mathlib.Core.List.{List, []}
-use Prim.Native.Nat.{ℕ, _+_, _*_, _≤_, _<_}
+use Prim.Native.Nat.{ℕ, _+_, _*_, _≤_}
 use lib.ListN.{length}
 use native.Mathlib.Omega.{arith}
 use Rattle.rules.specs.Layout.{Reading}
 use Rattle.rules.specs.Outcome.{refused}
 use Rattle.rules.specs.Places.{LineAt, Placed, tooLong, atLine, emptyText, atByte, unweighed}
 use Rattle.rules.specs.Answer.{judged, answered}
-use Rattle.rules.proofs.walk.Refusals.{Refusal, given, bind-refusal, test-refusal, last-refusal}
+use Rattle.rules.proofs.walk.Refusals.{Refusal, given, weaker, bind-refusal, test-refusal, last-refusal}
 use Rattle.rules.proofs.walk.PlaceWithin.{read-placed}
 use Rattle.rules.proofs.answer.Steps.{answered-steps, judged-steps, weighed-steps}
 
 -- 7 and 8 have no place.
-judged-placed : (t : List ℕ) (r : Reading) → Refusal (Placed t) (judged r)
-judged-placed t r =
-    let none : (n : ℕ) → (7 ≤ n) × (n ≤ 8) → Placed t n 0 0 = λ n h. unweighed (h .0) (h .1) in
-    rw (judged-steps r, weighed-steps r) (bind-refusal _ _ (test-refusal _ 7 0 0 _ (none 7 (omega arith)) (last-refusal _ 8 0 0 (none 8 (omega arith)))) (λ u eu. given))
+abbrev pub NoPlace : ℕ → ℕ → ℕ → Type 0
+NoPlace n l o = (7 ≤ n) × (n ≤ 8) × (l ≡ 0) × (o ≡ 0)
+
+pub judged-refusal : (r : Reading) → Refusal NoPlace (judged r)
+judged-refusal r = rw (judged-steps r, weighed-steps r) (bind-refusal _ _ (test-refusal _ 7 0 0 _ (omega arith) (last-refusal _ 8 0 0 (omega arith))) (λ u eu. given))
 
 -- Every refusal, that of the reading and 7 and 8.
 pub place-within : (t : List ℕ) (n l o : ℕ) → answered t ≡ refused n l o → Placed t n l o
 place-within t n l o e = placed .holds n l o e
   where
     placed : Refusal (Placed t) (answered t)
-    placed = rw (answered-steps t) (bind-refusal _ _ (read-placed t) (λ r er. judged-placed t r))
+    placed = rw (answered-steps t) (bind-refusal _ _ (read-placed t) (λ r er. weaker (λ n l o x. rw (x .2, x .3) (unweighed (x .0) (x .1))) (judged-refusal r)))
 
 -- Read the other way: 1 has offset 0; 2 to 6 name a byte of one of the text's own lines, and both its characters stand there, or the text is empty.
 pub one-at-front : {t : List ℕ} {n l o : ℕ} → Placed t n l o → n ≡ 1 → o ≡ 0

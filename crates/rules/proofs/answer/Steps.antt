@@ -1,17 +1,15 @@
--- The answer step by step: the reading, then 7 and 8, then the judgement; and what is sent back of it, with room for the report and without.
-use mathlib.Core.Path.{_≡_, refl, ap, _∙_}
-use mathlib.Core.List.{List, _++_, map}
-use Prim.Native.Nat.{ℕ, _≤_, _<_}
-use lib.ListN.{length, drop}
+-- The answer step by step: the reading, then 7 and 8, then the judgement; and its report.
+use mathlib.Core.Path.{_≡_, refl, _∙_}
+use mathlib.Core.List.{List, map}
+use Prim.Native.Nat.{ℕ}
 use lib.Dec.{leb}
-use borrow.Author.Tests.{lt-ltb, le-ltb}
 use Rattle.rules.specs.Layout.{Reading}
 use Rattle.rules.specs.Outcome.{refused, got, test, _>>=_, _>>_}
 use Rattle.rules.specs.Walk.{read}
 use Rattle.rules.specs.Loading.{inTable, displacement, correctedKG, greatestKG, entriesOf, weighed}
 use Rattle.rules.specs.Curve.{loaded}
-use Rattle.rules.specs.Report.{verdictNumber, Judgement, judgement, noJudgement, reportLength, reportLine}
-use Rattle.rules.specs.Answer.{judged, answered, numberOf, reportOf, number, written}
+use Rattle.rules.specs.Report.{verdictNumber, Judgement, judgement, noJudgement, reportLine}
+use Rattle.rules.specs.Answer.{judged, answered, reportOf}
 use Rattle.rules.proofs.walk.Outcome.{bind-got, bind-refused}
 
 -- ---- what is answered

@@ -1,17 +1,18 @@
 -- Every block of a reading lies wholly inside its parent; the blocks of a parent stand end to end and fill it.
 use mathlib.Core.Path.{_≡_, refl, ap, sym, _∙_}
+use mathlib.Core.Bool.{true}
 use mathlib.Core.List.{List, [], _∷_, _++_, append-nil, append-assoc}
 use Prim.Native.Nat.{ℕ, _+_, _<_}
 use native.Mathlib.Omega.{arith}
 use lib.ListN.{length, getD, length-append}
 use lib.Seq.{getD-append-seam, getD-append-add}
 use Rattle.rules.specs.Numbers.{num, digits}
-use Rattle.rules.specs.Blocks.{block, spellValues, Row, ship, row, conditionTag, weather, entry, groupTag, spellBlock, spellWeather}
+use Rattle.rules.specs.Blocks.{block, spellValues, Layout, ok, Row, ship, row, conditionTag, weather, entry, groupTag, spellBlock, spellWeather}
 use Rattle.rules.specs.Layout.{Entries, end, leaf, group, Condition, Reading, spell, spellCondition, rowFrames, frames, Rising, ConditionLimits, Limits}
 use Rattle.rules.specs.Parts.{be2}
 use Rattle.rules.specs.Places.{endOf, Fills, FrameFills, FramesFill, ConditionFills, LinesFill}
 use Rattle.rules.proofs.layout.Numbers.{num-digits}
-use Rattle.rules.proofs.layout.Fields.{length-fits, ship-lawful, row-lawful}
+use Rattle.rules.proofs.layout.Fields.{Lawful, length-fits, ship-lawful, row-lawful}
 use Rattle.rules.proofs.walk.Conditions.{weatherBody, length-condition}
 use Rattle.rules.proofs.walk.Entries.{length-leaf, length-group}
 
@@ -71,12 +72,17 @@ frame-fills t body s =
     let L : length (block t body) ≡ 3 + length body = length-end [] t body in
     omega (arith, B .1)
 
+-- A block of fixed size.
+pub fixed-fills : {A : Type 0} (L : Layout A) → Lawful L → (v : A) → ok L v ≡ true → FrameFills (spellBlock L v)
+unfolding spellBlock
+fixed-fills L W v e = frame-fills (L .tag) (spellValues (L .fields) (L .listed v)) (length-fits L W v e)
+
 -- The line of A3: its head, then what is inside.
 condition-line : (c : Condition) → block conditionTag (spellCondition c) ≡ (conditionTag ∷ digits 2 (length (spellCondition c))) ++ (spellWeather (c .weather) ++ spell (c .load))
 unfolding block spellCondition
 condition-line c = refl
 
-condition-fills : (c : Condition) → length (spellCondition c) < 65_536 → ConditionFills (block conditionTag (spellCondition c)) c
+pub condition-fills : (c : Condition) → length (spellCondition c) < 65_536 → ConditionFills (block conditionTag (spellCondition c)) c
 unfolding spellBlock
 condition-fills c s =
     let line : List ℕ = block conditionTag (spellCondition c) in
@@ -100,7 +106,7 @@ condition-fills c s =
 
 -- All lines of a reading.
 rows-fill : (vs : List Row) (c : Condition) (p : ℕ) → Rising p vs → ConditionLimits c → LinesFill (rowFrames vs c) c
-unfolding rowFrames Rising FramesFill spellBlock
+unfolding rowFrames Rising FramesFill
 rows-fill [] c p R l = record { front = []; last = block conditionTag (spellCondition c); lines = refl; frames = tt; condition = condition-fills c (omega (arith, l .long)) }
 rows-fill (v ∷ vs) c p R l =
     let x = rows-fill vs c (v .mass) (R .2) l in
@@ -108,18 +114,18 @@ rows-fill (v ∷ vs) c p R l =
       front = spellBlock row v ∷ x .front;
       last = x .last;
       lines = ap (spellBlock row v ∷_) (x .lines);
-      frames = (frame-fills (row .tag) (spellValues (row .fields) (row .listed v)) (length-fits row row-lawful v (R .0)), x .frames);
+      frames = (fixed-fills row row-lawful v (R .0), x .frames);
       condition = x .condition;
     }
 
 pub reading-fills : (r : Reading) → Limits r → LinesFill (frames r) (r .condition)
-unfolding frames FramesFill spellBlock
+unfolding frames FramesFill
 reading-fills r l =
     let x = rows-fill (r .rows) (r .condition) 0 (l .rising) (l .loaded) in
     record {
       front = spellBlock ship (r .ship) ∷ x .front;
       last = x .last;
       lines = ap (spellBlock ship (r .ship) ∷_) (x .lines);
-      frames = (frame-fills (ship .tag) (spellValues (ship .fields) (ship .listed (r .ship))) (length-fits ship ship-lawful (r .ship) (l .hull)), x .frames);
+      frames = (fixed-fills ship ship-lawful (r .ship) (l .hull), x .frames);
       condition = x .condition;
     }

@@ -1,4 +1,4 @@
--- Refusal 1: within 12,000 characters it names the first line that is none, whatever stands behind it, and there is no other; over 12,000 characters it has line 0. What gets another number is lines.
+-- Refusal 1: within 180,000 characters it names the first line that is none, whatever stands behind it, and there is no other; over 180,000 characters it has line 0. What gets another number is lines.
 use mathlib.Core.Path.{_≡_, refl, ap, sym, _∙_}
 use mathlib.Core.Logic.{_↔_, _≢_}
 use mathlib.Core.Bool.{Bool, true, false}
@@ -112,7 +112,7 @@ pub lines-bad : (ln : ℕ) (t : List ℕ) → Refusal (Bad ln t) (linesFrom ln t
 unfolding linesFrom
 lines-bad ln t = let N = split-no-lf t in rw (join-split t) at (decode-bad (split t .1) ln (split t .0) (N .0) (N .1))
 
--- ---- 1, of a text within 12,000 characters
+-- ---- 1, of a text within 180,000 characters
 pub one-no-line : (t : List ℕ) → length t ≤ mostCharacters → (l o : ℕ) → (read t ≡ refused 1 l o) ↔ ((o ≡ 0) × FirstNoLine t l)
 one-no-line t c l o = (λ e. only .holds 1 l o (sym walked ∙ e) refl, λ x. rw (x .0) (there (x .1) c))
   where
@@ -138,7 +138,7 @@ lines-unless-one t n l o e h = other .holds n l o e h
         let s = lines-sound 1 t ls els in
         record { holds = λ n l o e h. (ls, s .1, s .0, leb-true _ _ c) })))
 
--- ---- 1, of a text over 12,000 characters
+-- ---- 1, of a text over 180,000 characters
 pub one-too-long : (t : List ℕ) → (read t ≡ refused 1 0 0) ↔ (mostCharacters < length t)
 one-too-long t = (λ e. go (leb (length t) mostCharacters) refl e, λ c. read-steps t ∙ test-refused _ _ _ _ (lt-leb _ _ c))
   where

@@ -79,7 +79,7 @@ found-same ln k p h h′ aCondition x y = rw (conditionIn-same ln h h′ x y)
 
 -- Two lines that are the same before the end of what the refusal looks at, which names the block of the first at offset o.
 module _ (ln a b o : ℕ) (l l′ : List ℕ) (A : SameBefore (lookedAt l a o) l l′) where
-  a-head : 3 ≤ lookedAt l a o
+  pub a-head : 3 ≤ lookedAt l a o
   a-head = omega (arith, looked-head a o l (lookedAt l a o) (le-refl _))
 
   module _ (f₀ : 3 + be2 l 1 ≤ length l) where

@@ -32,7 +32,7 @@ frame-sound ln l h B e z =
 pub frame-got : (ln t : ℕ) (body : List ℕ) → length body < 65_536 → header ln 0 (block t body) ≡ got (record { tag = t; body = body; rest = [] })
 frame-got ln t body l = ap (header ln 0) (sym (append-nil (block t body))) ∙ header-got ln 0 t body [] l
 
-fixedIn-sound : {A : Type 0} (ln : ℕ) (L : Layout A) (W : Lawful L) (l : List ℕ) (h : Head) (a : A) → Bytes l → header ln 0 l ≡ got h → fixedIn ln L h ≡ got a
+pub fixedIn-sound : {A : Type 0} (ln : ℕ) (L : Layout A) (W : Lawful L) (l : List ℕ) (h : Head) (a : A) → Bytes l → header ln 0 l ≡ got h → fixedIn ln L h ≡ got a
     → (block (h .tag) (spellValues (L .fields) (L .listed a)) ≡ l) × (ok L a ≡ true)
 unfolding fixedIn
 fixedIn-sound ln L W l h a B eh e =
@@ -41,7 +41,7 @@ fixedIn-sound ln L W l h a B eh e =
     let f = fixed-sound ln 0 L W true (h .body) a (m .1) (x .1) in
     (ap (block (h .tag)) (f .0) ∙ m .0, f .2)
 
-fixedIn-got : {A : Type 0} (ln : ℕ) (L : Layout A) (W : Lawful L) (a : A) → ok L a ≡ true → fixedIn ln L (record { tag = L .tag; body = spellValues (L .fields) (L .listed a); rest = [] }) ≡ got a
+pub fixedIn-got : {A : Type 0} (ln : ℕ) (L : Layout A) (W : Lawful L) (a : A) → ok L a ≡ true → fixedIn ln L (record { tag = L .tag; body = spellValues (L .fields) (L .listed a); rest = [] }) ≡ got a
 unfolding fixedIn
 fixedIn-got ln L W a e = test-got _ _ _ _ refl ∙ fixed-got ln 0 L W true a refl e
 

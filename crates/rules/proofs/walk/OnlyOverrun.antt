@@ -21,14 +21,14 @@ use Rattle.rules.proofs.walk.Conditions.{weather-sound}
 use Rattle.rules.proofs.walk.Frames.{code, frame-sound, frameOf-sound, FrameSpelled, frameAt-sound, ship-sound}
 use Rattle.rules.proofs.walk.WholeText.{read-lines}
 use Rattle.rules.proofs.walk.Refusals.{Refusal, given, plain, weaker, bind-refusal, test-refusal, test-cases, At, header-refusal, block-refusal, weather-refusal, fixedIn-refusal, frameOf-refusal, found-row-refusal}
-use Rattle.rules.proofs.walk.Overrun.{none-pass, overrun}
+use Rattle.rules.proofs.walk.Overrun.{none-pass, frames-overrun}
 
 -- Of a refusal with 2, P holds of the line and the offset.
-abbrev Two : (ℕ → ℕ → Type 0) → ℕ → ℕ → ℕ → Type 0
+abbrev pub Two : (ℕ → ℕ → Type 0) → ℕ → ℕ → ℕ → Type 0
 Two P n l o = n ≡ 2 → P l o
 
 -- Behind a head the numbers are others.
-past-head : {A : Type 0} {P : ℕ → ℕ → Type 0} {ln at : ℕ} {m : Ans A} → Refusal (At 3 ln at) m → Refusal (Two P) m
+pub past-head : {A : Type 0} {P : ℕ → ℕ → Type 0} {ln at : ℕ} {m : Ans A} → Refusal (At 3 ln at) m → Refusal (Two P) m
 past-head h = weaker (λ n l o x e. absurd (omega arith)) h
 
 -- ---- among entries
@@ -151,7 +151,7 @@ module _ (s : Ship) (vs : List Row) (L : Led s vs) where
       record { left = l; met = rw (q, x .2) (frameBehind s vs c l ls L f C); overruns = (full-length l (B .0), x .3) }) (header-refusal (2 + length vs + 1) 0 l)) (λ h eh. plain (λ e. absurd (omega arith)))
 
 -- The rows in front grow by one.
-rows-snoc : (vs : List Row) (v : Row) (ls : List (List ℕ)) → behindRows (vs ++ (v ∷ [])) ls ≡ behindRows vs (spellBlock row v ∷ ls)
+pub rows-snoc : (vs : List Row) (v : Row) (ls : List (List ℕ)) → behindRows (vs ++ (v ∷ [])) ls ≡ behindRows vs (spellBlock row v ∷ ls)
 unfolding behindRows
 rows-snoc [] v ls = refl
 rows-snoc (u ∷ vs) v ls = ap (spellBlock row u ∷_) (rows-snoc vs v ls)
@@ -185,5 +185,8 @@ frames-over (l ∷ ls) B =
     bind-refusal _ _ (rw (S .0) at (tail-over ls v [] 2 0 0 (B .2) (S .1) (λ ws R. R) (omega arith) refl refl)) (λ x ex. given))
 
 -- ---- a whole text
+pub two-frames : (ls : List (List ℕ)) → Lines ls → (ln o : ℕ) → (readFrames ls ≡ refused 2 ln o) ↔ ((left : List ℕ) × Met ls ln o left × Overruns left)
+two-frames ls B ln o = (λ e. let x = frames-over ls B .holds 2 ln o e refl in (x .left, x .met, x .overruns), λ x. frames-overrun (x .1) (x .2))
+
 pub two-overrun : (ls : List (List ℕ)) → Lines ls → length (text ls) ≤ mostCharacters → (ln o : ℕ) → (read (text ls) ≡ refused 2 ln o) ↔ ((left : List ℕ) × Met ls ln o left × Overruns left)
-two-overrun ls B c ln o = (λ e. let x = frames-over ls B .holds 2 ln o (sym (read-lines ls B c) ∙ e) refl in (x .left, x .met, x .overruns), λ x. overrun ls B c (x .1) (x .2))
+two-overrun ls B c ln o = rw (read-lines ls B c) (two-frames ls B ln o)

@@ -60,3 +60,14 @@ pub bind-cong : {A B : Type 0} (m : Ans A) (k k′ : A → Ans B) → ((a : A) �
 unfolding _>>=_
 bind-cong (refused n l o) k k′ h = refl
 bind-cong (got a) k k′ h = h a refl
+
+-- ---- what stands behind a test, or behind what only names its result, may be put together first
+pub test-bind : {A B : Type 0} (c : Bool) (n l o : ℕ) (m : Ans A) (k : A → Ans B) → ((test c n l o >> m) >>= k) ≡ (test c n l o >> (m >>= k))
+unfolding _>>=_ _>>_ test
+test-bind true n l o m k = refl
+test-bind false n l o m k = refl
+
+pub bind-bind : {A B C : Type 0} (m : Ans A) (f : A → B) (k : B → Ans C) → ((m >>= λ a. got (f a)) >>= k) ≡ (m >>= λ a. k (f a))
+unfolding _>>=_
+bind-bind (refused n l o) f k = refl
+bind-bind (got a) f k = refl

@@ -100,7 +100,7 @@ condition-refused : (body : List ℕ) (later : List (List ℕ)) (ln k q : ℕ) {
 unfolding tail
 condition-refused body later ln k q f l e = bind-refused _ (condition-frame ln k q body f l ∙ bind-refused _ e)
 
-frames-overrun : {ls : List (List ℕ)} {ln o : ℕ} {left : List ℕ} → Met ls ln o left → Overruns left → readFrames ls ≡ refused 2 ln o
+pub frames-overrun : {ls : List (List ℕ)} {ln o : ℕ} {left : List ℕ} → Met ls ln o left → Overruns left → readFrames ls ≡ refused 2 ln o
 unfolding readFrames tail after closed
 frames-overrun (shipsFrame l later) v = bind-refused _ (ship-short 1 l (header-overrun l 1 0 (v .1)))
 frames-overrun (frame s vs l later L) v = led-refused s vs (l ∷ later) L (λ q. bind-refused _ (frame-short (2 + length vs) (length vs) q l (header-overrun l (2 + length vs) 0 (v .1))))

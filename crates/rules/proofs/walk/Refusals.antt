@@ -207,7 +207,7 @@ module _ (ln : ℕ) where
       go false true = given
       go false false = plain (omega arith)
 
-  row-refusal : (p : ℕ) (h : Head) → Refusal (At 3 ln 0) (rowIn ln p h)
+  pub row-refusal : (p : ℕ) (h : Head) → Refusal (At 3 ln 0) (rowIn ln p h)
   unfolding rowIn
   row-refusal p h = bind-refusal _ _ (fixedIn-refusal row h) (λ v ev. test-refusal _ _ _ _ _ (omega arith) given)
 

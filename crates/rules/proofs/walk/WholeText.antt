@@ -20,7 +20,7 @@ pub read-steps : (t : List ℕ) → read t ≡ (test (leb (length t) mostCharact
 unfolding read
 read-steps t = refl
 
--- The walk over a text of lines within 12,000 characters.
+-- The walk over a text of lines within 180,000 characters.
 pub read-lines : (ls : List (List ℕ)) → Lines ls → length (text ls) ≤ mostCharacters → read (text ls) ≡ readFrames ls
 read-lines ls B l = read-steps (text ls) ∙ test-got _ _ _ _ (le-leb _ _ l) ∙ bind-got _ (lines-got ls 1 B)
 

@@ -1,0 +1,167 @@
+-- What is promised of a booklet, a text of up to 24 conditions, to be read without the proofs: each promise is one theorem with a sentence above it, and its proof stands elsewhere.
+-- Its words are defined in specs/: Apart says which texts are allowed as a whole and which condition lines are, Booklet in which order they are checked, Answer what is sent back.
+use mathlib.Core.Path.{_≡_, sym, ap, _∙_}
+use mathlib.Core.Logic.{_↔_, _≢_}
+use mathlib.Core.List.{List, [], _∷_, _++_}
+use Prim.Native.Nat.{ℕ, _+_, _*_, max, _≤_, _<_}
+use native.Mathlib.Omega.{arith}
+use lib.ListN.{length, take, drop, getD, length-set}
+use Rattle.rules.specs.Numbers.{Bytes}
+use Rattle.rules.specs.Text.{text, Lines}
+use Rattle.rules.specs.Blocks.{conditionTag, Ship, Row}
+use Rattle.rules.specs.Layout.{Condition, mostCharacters, mostConditions}
+use Rattle.rules.specs.Outcome.{refused, got}
+use Rattle.rules.specs.Walk.{linesFrom}
+use Rattle.rules.specs.Report.{reportLength}
+use Rattle.rules.specs.Met.{lead, Met, Overruns}
+use Rattle.rules.specs.Places.{FramesFill, ConditionFills, SameBefore, lookedAt}
+use Rattle.rules.specs.Booklet.{conditionLines, Booklet, readWhole, conditionAt}
+use Rattle.rules.specs.Apart.{linesOf, spellBooklet, AllowedWhole, AllowedLine, LinesWithin, lineAt, alone, respelt, MetWhole}
+use Rattle.rules.specs.Answer.{reportOf, answered, answerAt, answers, answer, inLine, number, written, room}
+use Rattle.rules.proofs.booklet.Refusals.{conditionAt-refusal}
+use Rattle.rules.proofs.booklet.WholeText.{lines-of-refused, whole-iff-allowed, whole-unique}
+use Rattle.rules.proofs.booklet.Conditions.{condition-iff-allowed, condition-unique}
+use Rattle.rules.proofs.booklet.Room as rooms
+use Rattle.rules.proofs.booklet.Reports as reports
+use Rattle.rules.proofs.booklet.LineOnly.{in-line-only}
+use Rattle.rules.proofs.booklet.Alone as alones
+use Rattle.rules.proofs.booklet.OfOne as ones
+use Rattle.rules.proofs.booklet.PlaceFits.{whole-fits}
+use Rattle.rules.proofs.booklet.InsideParent.{lines-of-booklet, front-fills, line-fills}
+use Rattle.rules.proofs.booklet.OnlyOverrun.{two-whole}
+use Rattle.rules.proofs.booklet.LineOverrun.{two-line}
+use Rattle.rules.proofs.booklet.FirstFault.{whole-fault, fault-in-line}
+use Rattle.rules.proofs.booklet.TwentyFifth.{twenty-fifth}
+
+-- ---- which texts are read
+-- A text gets none of 1 to 6 for the whole exactly when it is allowed as a whole.
+pub allowed-whole : (most : ℕ) (t : List ℕ) → ((n l o : ℕ) → (1 ≤ n) × (n ≤ 6) → readWhole most t ≢ refused n l o) ↔ AllowedWhole most t
+allowed-whole most t = whole-iff-allowed most t
+
+-- It says one booklet only.
+pub one-booklet : (most : ℕ) (t : List ℕ) (a b : AllowedWhole most t) → a .0 ≡ b .0
+one-booklet most t a b = whole-unique most t a b
+
+-- A line that begins with A3 gets none of 2 to 6 exactly when it is allowed, whatever the ship, the rows and its place.
+pub allowed-line : (s : Ship) (vs : List Row) (ln : ℕ) (l : List ℕ) → getD l 0 0 ≡ conditionTag → Bytes l → ((n m o : ℕ) → (2 ≤ n) × (n ≤ 6) → answerAt s vs ln l ≢ refused n m o) ↔ AllowedLine l
+allowed-line s vs ln l t B = condition-iff-allowed s vs ln l t B
+
+-- It says one condition only.
+pub one-condition : (l : List ℕ) (a b : AllowedLine l) → a .0 ≡ b .0
+one-condition l a b = condition-unique l a b
+
+-- ---- where its blocks stand
+-- The lines of a text that is read are those of the ship, the rows and the conditions. Each of the ship's and the rows' is filled by its frame. So is that of each condition that is read:
+-- in it the weather stands at offset 3, behind it the entries end to end, of which the last ends with the line; and so in each group, from behind its head to its end.
+pub inside-parent : (most : ℕ) (t : List ℕ) (b : Booklet) → readWhole most t ≡ got b
+    → (linesFrom 1 t ≡ got (linesOf b)) × FramesFill (lead (b .ship) (b .rows) [])
+    × ((k : ℕ) → k < length (b .conditions) → (ln : ℕ) (c : Condition) → conditionAt ln (lineAt b k) ≡ got c → ConditionFills (lineAt b k) c)
+inside-parent most t b e = (lines-of-booklet most t b e, front-fills most t b e, line-fills most t b e)
+
+-- ---- how much room
+-- The number is 9 exactly when the buffer is shorter than the room that the text asks for ..
+pub nine : (most : ℕ) (t buffer : List ℕ) → (number most t buffer ≡ 9) ↔ (length buffer < room most t)
+nine most t buffer = rooms.nine-iff-no-room most t buffer
+
+-- .. and with 9 nothing is written.
+pub nine-keeps : (most : ℕ) (t buffer : List ℕ) → number most t buffer ≡ 9 → written most t buffer ≡ buffer
+nine-keeps most t buffer e = rooms.without-room most t buffer (nine most t buffer .0 e) .holds
+
+-- A text that is read asks for 209 bytes for each of its conditions; no text asks for fewer than 209 or for more than 24 times that.
+pub room-read : (most : ℕ) (t : List ℕ) (b : Booklet) → readWhole most t ≡ got b → room most t ≡ reportLength * length (b .conditions)
+room-read most t b e = rooms.room-read most t b e
+
+pub room-bounds : (most : ℕ) (t : List ℕ) → (reportLength ≤ room most t) × (room most t ≤ reportLength * mostConditions)
+room-bounds most t = rooms.room-bounds most t
+
+-- ---- each condition for itself
+-- Take a text that is read, a condition line of it, the one with the number k from 0, and a buffer with room.
+module _ (most : ℕ) (t : List ℕ) (b : Booklet) (e : readWhole most t ≡ got b) (k : ℕ) (h : k < length (b .conditions)) where
+  abbrev report : List ℕ → List ℕ → ℕ → List ℕ
+  report s buffer i = take reportLength (drop (reportLength * i) (written most s buffer))
+
+  abbrev single : List ℕ
+  single = spellBooklet (alone b (lineAt b k))
+
+  room-for : (buffer : List ℕ) → reportLength * length (b .conditions) ≤ length buffer → room most t ≤ length buffer
+  room-for buffer r = omega (arith, room-read most t b e)
+
+  -- The text with that condition alone is read. Report k, the 209 characters from 209 k on, is the report of that text with the line number of the long one.
+  pub each-as-alone : (readWhole most single ≡ got (alone b (lineAt b k)))
+      × ((buffer : List ℕ) → reportLength * length (b .conditions) ≤ length buffer → report t buffer k ≡ reportOf (inLine (2 + length (b .rows) + k) (answer (alone b (lineAt b k)) 0)))
+  each-as-alone = (
+    alones.alone-read b k h most t e,
+    λ buffer r. reports.report-stands b most t buffer e (room-for buffer r) k h ∙ ap reportOf (alones.each-as-alone b k h),
+  )
+
+  -- But for its 9th to 12th character, the line number, it is the report that the text with that condition alone gets.
+  pub but-for-the-line : (buffer buffer′ : List ℕ) → reportLength * length (b .conditions) ≤ length buffer → reportLength ≤ length buffer′
+      → (take 8 (report t buffer k) ≡ take 8 (report single buffer′ 0)) × (drop 12 (report t buffer k) ≡ drop 12 (report single buffer′ 0))
+  but-for-the-line buffer buffer′ r r′ =
+      let x = each-as-alone in
+      let y = x .1 buffer r in
+      let z = reports.report-stands (alone b (lineAt b k)) most single buffer′ (x .0) (omega (arith, room-read most single (alone b (lineAt b k)) (x .0))) 0 (omega arith) in
+      let w = in-line-only (2 + length (b .rows) + k) (answer (alone b (lineAt b k)) 0) in
+      (ap (take 8) y ∙ w .0 ∙ sym (ap (take 8) z), ap (drop 12) y ∙ w .1 ∙ sym (ap (drop 12) z))
+
+  -- Whatever begins with A3 may stand in that line instead, within the limit of characters: the text is read, and every other condition is answered as before ..
+  pub spoils-its-own : (l : List ℕ) → getD l 0 0 ≡ conditionTag → Bytes l → length (spellBooklet (respelt b k l)) ≤ most
+      → (readWhole most (spellBooklet (respelt b k l)) ≡ got (respelt b k l)) × ((i : ℕ) → i ≢ k → answer (respelt b k l) i ≡ answer b i)
+  spoils-its-own l a B m = alones.spoils-its-own b k h most t e l a B m
+
+  -- .. with the same report in the same place.
+  pub others-stay : (l : List ℕ) → getD l 0 0 ≡ conditionTag → Bytes l → length (spellBooklet (respelt b k l)) ≤ most
+      → (buffer : List ℕ) → reportLength * length (b .conditions) ≤ length buffer → (i : ℕ) → i ≢ k → i < length (b .conditions) → report (spellBooklet (respelt b k l)) buffer i ≡ report t buffer i
+  others-stay l a B m buffer r i d g =
+      let x = spoils-its-own l a B m in
+      let n = length-set (b .conditions) k l in
+      reports.report-stands (respelt b k l) most (spellBooklet (respelt b k l)) buffer (x .0) (omega (arith, room-read most (spellBooklet (respelt b k l)) (respelt b k l) (x .0))) i (omega arith)
+      ∙ ap reportOf (x .1 i d) ∙ sym (reports.report-stands b most t buffer e (room-for buffer r) i g)
+
+-- Behind the last report the buffer keeps its bytes.
+pub beyond-kept : (most : ℕ) (t buffer : List ℕ) (b : Booklet) → readWhole most t ≡ got b → room most t ≤ length buffer
+    → drop (reportLength * length (b .conditions)) (written most t buffer) ≡ drop (reportLength * length (b .conditions)) buffer
+beyond-kept most t buffer b e r = reports.beyond-kept b most t buffer e r
+
+-- ---- a text of one condition
+-- It is answered as `answered` says, of which Reading promises more.
+pub of-one : (most : ℕ) (t : List ℕ) (b : Booklet) → most ≤ mostCharacters → readWhole most t ≡ got b → length (b .conditions) ≡ 1 → answers b ≡ answered t ∷ []
+of-one most t b m e one = ones.of-one most t b e m one
+
+-- ---- what is refused
+-- A text of lines within its limit with a 25th condition line is refused with 5 there for the whole, whatever else it holds.
+pub five-at-25th : (most : ℕ) (front : List (List ℕ)) (l : List ℕ) (later : List (List ℕ)) → Lines (front ++ (l ∷ later)) → length (text (front ++ (l ∷ later))) ≤ most → conditionLines front ≡ mostConditions → getD l 0 0 ≡ conditionTag
+    → readWhole most (text (front ++ (l ∷ later))) ≡ refused 5 (1 + length front) 0
+five-at-25th most front l later B m c a = twenty-fifth most front l later B m c a
+
+-- A text of lines within its limit, of which at most 24 begin with A3, is refused with 2 for the whole exactly where the reading comes to a line whose frame runs past it, or that has one or two bytes:
+-- the first line; one behind the ship's and some rows' that is no condition line in its place; one behind condition lines that is none. The offset is 0.
+pub two-for-the-whole : (most : ℕ) (t : List ℕ) (ls : List (List ℕ)) → LinesWithin most t ls → (ln o : ℕ) → (readWhole most t ≡ refused 2 ln o) ↔ ((o ≡ 0) × (l : List ℕ) × MetWhole ls ln l × Overruns l)
+two-for-the-whole most t ls C ln o = two-whole most t ls C ln o
+
+-- A condition of a text that is read is refused with 2, in its line and at an offset, exactly where in the text with that condition alone a block is met there whose length runs past its parent, or one or two bytes where a block would begin.
+pub two-in-line : (most : ℕ) (t : List ℕ) (b : Booklet) → readWhole most t ≡ got b → (k : ℕ) → k < length (b .conditions) → (o : ℕ)
+    → (answer b k ≡ refused 2 (2 + length (b .rows) + k) o) ↔ ((left : List ℕ) × Met (linesOf (alone b (lineAt b k))) (2 + length (b .rows)) o left × Overruns left)
+two-in-line most t b e k h o = two-line most t b e k h o
+
+-- A refusal for the whole depends on nothing behind the line that it names. Two such texts have the same lines before that one; it has one length in both, and the same bytes as far as the refusal looks: to the end of its head for 2, 4 and 3, of its frame for 6.
+-- All that stands behind, in the line and in further lines, may differ: the refusal is the same. Left out is 5, no A3: it names the text's end, and a further line would change it.
+pub first-fault : (most : ℕ) (t t′ : List ℕ) (front later later′ : List (List ℕ)) (l l′ : List ℕ) (n : ℕ) → LinesWithin most t (front ++ (l ∷ later)) → LinesWithin most t′ (front ++ (l′ ∷ later′)) → SameBefore (lookedAt l n 0) l l′ → n ≢ 5
+    → readWhole most t ≡ refused n (1 + length front) 0 → readWhole most t′ ≡ refused n (1 + length front) 0
+first-fault most t t′ front later later′ l l′ n C C′ A five e = whole-fault most t t′ front later later′ l l′ n C C′ A five e
+
+-- Nor does a condition's refusal, up to 6, depend on anything behind the block that it names, whatever the ship, the rows and its place: another line of the same length, with the same bytes as far as the refusal looks, gets the same.
+pub first-fault-in-line : (s : Ship) (vs : List Row) (ln : ℕ) (l l′ : List ℕ) (n m o : ℕ) → getD l 0 0 ≡ conditionTag → SameBefore (lookedAt l n o) l l′ → n ≤ 6 → answerAt s vs ln l ≡ refused n m o → answerAt s vs ln l′ ≡ refused n m o
+first-fault-in-line s vs ln l l′ n m o tag A h e = fault-in-line n m o l l′ A s vs ln tag h e
+
+-- Every text that is refused for the whole with another number than 1 and 5 is lines within its limit, of which at most 24 begin with A3: so these promises leave none of them out.
+pub lines-before-blocks : (most : ℕ) (t : List ℕ) (n l o : ℕ) → readWhole most t ≡ refused n l o → n ≢ 1 → n ≢ 5 → (ls : List (List ℕ)) × LinesWithin most t ls
+lines-before-blocks most t n l o e one five = lines-of-refused most t n l o e one five
+
+-- ---- where a refusal stands
+-- A refusal for the whole has offset 0 and a line that fits two bytes; one of a condition line has that line, and an offset inside it.
+pub whole-place : (most : ℕ) (t : List ℕ) (n l o : ℕ) → most ≤ mostCharacters → readWhole most t ≡ refused n l o → (l < 65_536) × (o ≡ 0)
+whole-place most t n l o h e = whole-fits most t h e
+
+pub condition-place : (ln : ℕ) (l : List ℕ) (n m o : ℕ) → conditionAt ln l ≡ refused n m o → (2 ≤ n) × (n ≤ 6) × (m ≡ ln) × (o < max 1 (length l))
+condition-place ln l n m o e = let x = conditionAt-refusal ln l .holds n m o e in omega arith
