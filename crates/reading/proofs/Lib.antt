@@ -1,3 +1,4 @@
 pub mod Frames
+pub mod Tallies
 pub mod Lines
 pub mod OneAnswer
