@@ -3,4 +3,6 @@ pub mod Bounds
 pub mod Blocks
 pub mod Load
 pub mod Frame
+pub mod Exits
+pub mod Long
 pub mod OneAnswer

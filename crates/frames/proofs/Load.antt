@@ -1,16 +1,17 @@
 -- The entries, on top of sums: how the answer for a whole follows from those for its parts.
 use mathlib.Core.Path.{_≡_, refl, ap, sym, _∙_}
 use mathlib.Core.List.{List}
-use Prim.Native.Nat.{ℕ, _+_, _-_}
+use Prim.Native.Nat.{ℕ, _+_, _-_, _≤_}
 use native.Mathlib.Omega.{arith}
-use lib.ListN.{drop}
+use lib.ListN.{length, drop}
 use Rattle.rules.specs.Numbers.{Bytes}
 use Rattle.rules.specs.Blocks.{Load, Values}
-use Rattle.rules.specs.Layout.{Entries, leaf, group, leaves, mostEntries}
+use Rattle.rules.specs.Layout.{Entries, leaf, group, leaves, mostEntries, mostBytes}
 use Rattle.rules.specs.Outcome.{Ans, refused, got, _>>=_}
 use Rattle.rules.specs.Walk.{entries}
 use Rattle.rules.specs.Parts.{part}
 use Rattle.rules.proofs.layout.Numbers.{Bytes-take, Bytes-drop}
+use Rattle.rules.proofs.layout.Parts.{length-part}
 use Rattle.book.specs.Book.{refusal, sumsOf, Refuses}
 use Rattle.book.specs.declared.Sums.{Sums}
 use Rattle.book.specs.declared.Refusal.{Refusal}
@@ -73,3 +74,31 @@ pub group-bounded : (ln d at a e : ℕ) (s : List ℕ) (t u : Sums) (r : LoadRea
 group-bounded ln d at a e s t u r B S p q =
     let w = load-sum t _ r p u q in
     rw (w .2) (entries-bounded ln d at (part a e s) (w .0) t B (Bytes-take (e - a) (drop a s) (Bytes-drop a s S)) (w .1))
+
+-- ---- one after the other
+-- What is left of the entries s on top of t: r, from its place on, on top of u.
+pub record Left (ln d : ℕ) (t : Sums) (at : ℕ) (s : List ℕ) (u : Sums) (from : ℕ) (r : List ℕ) : Type 0 where
+  pub shorter : length r ≤ length s
+  pub placed : from + length r ≤ 3 + mostBytes
+  pub bytes : Bytes r
+  pub bounded : Bounded u
+  pub same : loadRead u (entries ln d (mostEntries - u .count) from r) ≡ loadRead t (entries ln d (mostEntries - t .count) at s)
+
+module _ (ln d : ℕ) (t : Sums) (at : ℕ) (s : List ℕ) where
+  pub at-first : at + length s ≤ 3 + mostBytes → Bounded t → Bytes s → Left ln d t at s t at s
+  at-first p B S = record { shorter = omega arith; placed = p; bytes = S; bounded = B; same = refl }
+
+  -- After a block of len bytes.
+  pub one-further : (u w : Sums) (from to len : ℕ) (r : List ℕ) → Left ln d t at s u from r → 3 + len ≤ length r → to ≡ from + (3 + len) → Bounded w
+      → loadRead w (entries ln d (mostEntries - w .count) (from + 3 + len) (part (3 + len) (length r) r)) ≡ loadRead u (entries ln d (mostEntries - u .count) from r)
+      → Left ln d t at s w to (part (3 + len) (length r) r)
+  one-further u w from to len r L l o B e =
+      let n = length-part r (3 + len) (length r) (omega arith) in
+      let p : to ≡ from + 3 + len = omega arith in
+      record {
+        shorter = omega (arith, n, L .shorter);
+        placed = omega (arith, n, L .placed);
+        bytes = Bytes-take (length r - (3 + len)) (drop (3 + len) r) (Bytes-drop (3 + len) r (L .bytes));
+        bounded = B;
+        same = rw p (e ∙ L .same);
+      }

@@ -1,10 +1,26 @@
 -- Any two results that the contract of a public function admits are the same.
 use mathlib.Core.Path.{_≡_, sym, _∙_}
+use Rattle.frames.proofs.ConditionRead.fault.Reads as condition-fault
 use Rattle.frames.proofs.ship_frame.Reads as ship-frame
-use Rattle.frames.proofs.frame_at.Reads as frame-at
+use Rattle.frames.proofs.row_frame.Reads as row-frame
+use Rattle.frames.proofs.condition_frame.Reads as condition-frame
+use Rattle.frames.proofs.long_frame.Reads as long-frame
+use Rattle.frames.proofs.long_condition.Reads as long-condition
+
+pub condition-fault-one : (κs a r r′ s s′ : _) → condition-fault.Post κs a r s → condition-fault.Post κs a r′ s′ → r ≡ r′
+condition-fault-one κs a r r′ s s′ p q = p ∙ sym q
 
 pub ship-frame-one : (κs a r r′ s s′ : _) → ship-frame.Post κs a r s → ship-frame.Post κs a r′ s′ → r ≡ r′
 ship-frame-one κs a r r′ s s′ p q = p ∙ sym q
 
-pub frame-at-one : (κs a r r′ s s′ : _) → frame-at.Post κs a r s → frame-at.Post κs a r′ s′ → r ≡ r′
-frame-at-one κs a r r′ s s′ p q = p ∙ sym q
+pub row-frame-one : (κs a r r′ s s′ : _) → row-frame.Post κs a r s → row-frame.Post κs a r′ s′ → r ≡ r′
+row-frame-one κs a r r′ s s′ p q = p ∙ sym q
+
+pub condition-frame-one : (κs a r r′ s s′ : _) → condition-frame.Post κs a r s → condition-frame.Post κs a r′ s′ → r ≡ r′
+condition-frame-one κs a r r′ s s′ p q = p ∙ sym q
+
+pub long-frame-one : (κs a r r′ s s′ : _) → long-frame.Post κs a r s → long-frame.Post κs a r′ s′ → r ≡ r′
+long-frame-one κs a r r′ s s′ p q = p ∙ sym q
+
+pub long-condition-one : (κs a r r′ s s′ : _) → long-condition.Post κs a r s → long-condition.Post κs a r′ s′ → r ≡ r′
+long-condition-one κs a r r′ s s′ p q = p ∙ sym q

@@ -15,8 +15,8 @@ use Rattle.rules.proofs.walk.FrameExits.{inside-none, inside-short, inside-bloc
 use Rattle.blocks.specs.BlockAnswers.{weatherRead}
 use Rattle.cursor.proofs.Heads.{begins-fault, begins-block}
 use Rattle.frames.specs.Sums.{none}
-use Rattle.frames.specs.FrameAnswers.{conditionFound, loadRead, loaded}
-use Rattle.frames.specs.declared.Found.the-variants.{Refused}
+use Rattle.frames.specs.FrameAnswers.{conditionRead, loadRead, loaded}
+use Rattle.frames.specs.declared.ConditionRead.the-variants.{Refused}
 use Rattle.frames.proofs.Frame.{weather-fault, weather-got, condition-loaded}
 use Rattle.frames.proofs.inside.Statement.{statement}
 use Rattle.frames.proofs.inside.Tie as tie
@@ -64,7 +64,7 @@ refusal-requires : tie.Need-refusal-requires
 refusal-requires c κs = search needs
 
 returns : tie.Need-returns
-returns c = rw (c .refusal .ensures) (sym (ap conditionFound (inside-none _ _ (body-length (c .before .before .before) ∙ c .before .if1 .taken))))
+returns c = rw (c .refusal .ensures) (sym (ap conditionRead (inside-none _ _ (body-length (c .before .before .before) ∙ c .before .if1 .taken))))
 
 begin-in-requires : tie.Need-begin-in-requires
 begin-in-requires c κs = search needs
@@ -82,7 +82,7 @@ returns-2 : tie.Need-returns-2
 returns-2 c =
     let b = c .before .before .before in
     let h = begins-fault _ _ _ _ (b .begin-in .ensures) _ _ (c .before .enum-told .given .1) (c .fault .ensures) in
-    ap Refused (h .0) ∙ sym (ap conditionFound (inside-short _ _ (omega (arith, body-length (b .before .before .before))) (h .1)))
+    ap Refused (h .0) ∙ sym (ap conditionRead (inside-short _ _ (omega (arith, body-length (b .before .before .before))) (h .1)))
 
 bytes-requires : tie.Need-bytes-requires
 bytes-requires c κs = search needs
@@ -109,7 +109,7 @@ returns-3 : tie.Need-returns-3
 returns-3 c =
     let w = c .before .before .before in
     let h = head (known (lent w)) in
-    sym (ap conditionFound (inside-block _ _ _ _ (h .0) (h .1) ∙ bind-refused _ (weather-fault _ _ (weather w) _ _ (c .before .enum-told2 .given .1) (c .fault2 .ensures))))
+    sym (ap conditionRead (inside-block _ _ _ _ (h .0) (h .1) ∙ bind-refused _ (weather-fault _ _ (weather w) _ _ (c .before .enum-told2 .given .1) (c .fault2 .ensures))))
 
 bytes-requires-3 : tie.Need-bytes-requires-3
 bytes-requires-3 c κs = first-inside (lent (c .before .before .before))
@@ -140,7 +140,7 @@ returns-4 c =
     let o : p .onward2 .result ≡ 6 + first (known l) = omega (arith, p .onward2 .ensures, l .onward .ensures) in
     let r = p .before .bytes3 .ensures .0 ∙ ap (λ x. part (3 + first (known l)) (length x) x) (l .before .bytes .ensures .0) in
     c .loaded .ensures ∙ ap (loaded (k .before .w .given .0 .0)) (c .before .load-at .ensures ∙ at-part _ o r) ∙ condition-loaded _ _
-    ∙ sym (ap conditionFound (inside-block _ _ _ _ (h .0) (h .1) ∙ bind-got _ (weather-got _ _ (weather w) _ (k .before .w .given .1))))
+    ∙ sym (ap conditionRead (inside-block _ _ _ _ (h .0) (h .1) ∙ bind-got _ (weather-got _ _ (weather w) _ (k .before .w .given .1))))
 
 pub inside-spec : {M : Type 1} → statement M
 inside-spec =

@@ -1,47 +1,97 @@
--- `row_frame` meets its contract: the row beside its answer, or the refusal and a blank row.
-use mathlib.Core.Path.{_∙_}
+-- `row_frame` meets its contract: head, tag, rows so far, and then the row: 2, 4.
+use mathlib.Core.Path.{_≡_, ap, sym, _∙_}
+use Prim.Native.Nat.{ℕ, _+_, _≤_}
+use native.Mathlib.Omega.{arith}
+use lib.ListN.{length}
 use borrow.Author.Needs.{needs}
 use denote.Ref.{now}
-use Rattle.rules.specs.Blocks as rules
-use Rattle.rules.specs.Outcome.{Ans}
-use Rattle.rules.specs.Walk.{rowIn}
+use Rattle.rules.specs.Outcome.{got}
+use Rattle.rules.specs.Walk.{header}
 use Rattle.rules.specs.Parts.{headAt}
-use Rattle.frames.proofs.Frame.{row-fault, row-within}
+use Rattle.blocks.specs.BlockAnswers.{rowRead}
+use Rattle.cursor.proofs.Heads.{begins-fault, begins-block}
+use Rattle.frames.proofs.Exits.{refused-row, row-short, row-tag, row-many, row-in}
 use Rattle.frames.proofs.row_frame.Statement.{statement}
 use Rattle.frames.proofs.row_frame.Tie as tie
 
--- The row as the rules read it.
-abbrev asked : tie.Start → Ans rules.Row
-asked s = let a = s .args in rowIn (a .line) (a .last) (headAt 0xA2 (a .len) (now (a .s)))
+-- Where the head of the frame is read, and what it is.
+abbrev len : tie.After-known-told → ℕ
+len c = c .before .head .given .0 .1 .0
 
-row-in-requires : tie.Need-row-in-requires
-row-in-requires c κs = search needs
+head : (c : tie.After-known-told)
+    → let a = c .before .before .before .before .before .args in
+    (3 + len c ≤ length (now (a .s))) × (header (a .line) 0 (now (a .s)) ≡ got (headAt (c .before .head .given .0 .0) (len c) (now (a .s))))
+head c = begins-block _ _ _ _ (c .before .before .before .begin .ensures) _ _ (c .before .head .given .1)
+
+begin-requires : tie.Need-begin-requires
+begin-requires c κs = search needs
+
+enum-known-head : tie.Need-enum-known-head
+enum-known-head c = search needs
 
 enum-told : tie.Need-enum-told
 enum-told c = search needs
 
-enum-told-2 : tie.Need-enum-told-2
-enum-told-2 c = search needs
-
 fault-requires : tie.Need-fault-requires
 fault-requires c κs = search needs
 
-no-frame-requires : tie.Need-no-frame-requires
-no-frame-requires c κs = search needs
+no-row-requires : tie.Need-no-row-requires
+no-row-requires c κs = search needs
 
 returns : tie.Need-returns
 returns c =
-    let k = c .before .before in
-    let r = k .before .before in
-    c .no-frame .ensures ∙ row-fault (asked (r .before .before)) _ (r .row-in .ensures) _ _ (k .enum-told2 .given .1) (c .before .fault .ensures)
+    let f = c .before in
+    let h = begins-fault _ _ _ _ (f .before .before .before .begin .ensures) _ _ (f .before .enum-told .given .1) (f .fault .ensures) in
+    c .no-row .ensures ∙ refused-row _ _ _ _ _ (h .0) (row-short _ _ _ _ (h .1))
+
+refusal-requires : tie.Need-refusal-requires
+refusal-requires c κs = search needs
+
+no-row-requires-2 : tie.Need-no-row-requires-2
+no-row-requires-2 c κs = search needs
 
 returns-2 : tie.Need-returns-2
 returns-2 c =
-    let k = c .before in
-    let r = k .before .before in
-    row-within (asked (r .before .before)) _ (r .row-in .ensures) (k .enum-told .given .1)
+    let i = c .before .before in
+    let k = i .before in
+    c .no-row2 .ensures ∙ refused-row _ _ _ _ _ (c .before .refusal .ensures) (row-tag _ _ _ _ _ (len k) (head k .1) (i .if1 .taken))
+
+refusal-requires-2 : tie.Need-refusal-requires-2
+refusal-requires-2 c κs = search needs
+
+no-row-requires-3 : tie.Need-no-row-requires-3
+no-row-requires-3 c κs = search needs
+
+returns-3 : tie.Need-returns-3
+returns-3 c =
+    let i = c .before .before in
+    let k = i .before .before in
+    c .no-row3 .ensures ∙ refused-row _ _ _ _ _ (c .before .refusal2 .ensures) (row-many _ _ _ _ _ (len k) (head k .1) (i .before .if1 .left) (omega arith))
+
+row-in-requires : tie.Need-row-in-requires
+row-in-requires c κs = head (c .before .before) .0
+
+returns-4 : tie.Need-returns-4
+returns-4 c =
+    let i = c .before in
+    let k = i .before .before in
+    c .row-in .ensures ∙ sym (ap rowRead (row-in _ _ _ _ _ (len k) (head k .1) (i .before .if1 .left) (omega arith)))
 
 pub row-frame-spec : {M : Type 1} → statement M
 row-frame-spec =
     tie.close
-    (tie.spec row-in-requires enum-told enum-told-2 fault-requires no-frame-requires returns returns-2)
+    (tie.spec
+    begin-requires
+    enum-known-head
+    enum-told
+    fault-requires
+    no-row-requires
+    returns
+    refusal-requires
+    no-row-requires-2
+    returns-2
+    refusal-requires-2
+    no-row-requires-3
+    returns-3
+    row-in-requires
+    returns-4)
