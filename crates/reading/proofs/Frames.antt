@@ -101,17 +101,18 @@ add-row rs v h =
     let k : 40 - length rs ≡ suc (40 - (length rs + 1)) = omega arith in
     rw (n, k, set-at (map plainRow rs) blankRow (replicate (40 - (length rs + 1)) blankRow) (plainRow v) (length rs) (length-map rs plainRow), map-append plainRow rs (v ∷ []), append-assoc)
 
+-- Behind a line that has moved the state on.
+abbrev next : ℕ → ℕ → Table → List (List ℕ) → Moved → TextRead
+next n ln t ls m = run (m .state) (kept t m) (ln + 1) n ls
+
 module _ (n : ℕ) where
   run-rows : (ls : List (List ℕ)) (s : Ship) (rs : List rules.Row) (p ln : ℕ) → run (Rows s p) (tableOf rs) ln n ls ≡ bookRead n (joined n s rs (behindShip ls ln (length rs) p))
   unfolding run moved behindShip tableOf
   run-rows [] s rs p ln = sym (ap (bookRead n) (bind-refused _ refl))
   run-rows (l ∷ ls) s rs p ln = go (λ rs p. run-rows ls s rs p (ln + 1)) (isCondition l && leb fewestRows (length rs)) refl
     where
-      abbrev next : Moved → TextRead
-      next m = run (m .state) (kept (tableOf rs) m) (ln + 1) n ls
-
       row : ((rs : List rules.Row) (p : ℕ) → run (Rows s p) (tableOf rs) (ln + 1) n ls ≡ bookRead n (joined n s rs (behindShip ls (ln + 1) (length rs) p))) → (m : Ans rules.Row) → rowAt ln (length rs) p l ≡ m
-          → next (afterRow s (rowRead m)) ≡ bookRead n (joined n s rs (m >>= λ v. behindShip ls (ln + 1) (length rs + 1) (v .mass) >>= λ x. got (record { rows = v ∷ x .rows; conditions = x .conditions })))
+          → next n ln (tableOf rs) ls (afterRow s (rowRead m)) ≡ bookRead n (joined n s rs (m >>= λ v. behindShip ls (ln + 1) (length rs + 1) (v .mass) >>= λ x. got (record { rows = v ∷ x .rows; conditions = x .conditions })))
       row H (refused a b c) e = run-refused n _ _ ls (ln + 1) ∙ sym (ap (bookRead n) (bind-refused _ (bind-refused _ refl)))
       row H (got v) e =
           ap (λ t. run (Rows s (v .mass)) t (ln + 1) n ls) (add-row rs v (row-room ln (length rs) p l v e))
@@ -121,14 +122,14 @@ module _ (n : ℕ) where
           ∙ sym (ap (λ m. bookRead n (joined n s rs m)) (bind-got _ refl))
 
       go : ((rs : List rules.Row) (p : ℕ) → run (Rows s p) (tableOf rs) (ln + 1) n ls ≡ bookRead n (joined n s rs (behindShip ls (ln + 1) (length rs) p))) → (c : Bool) → (isCondition l && leb fewestRows (length rs)) ≡ c
-          → next (movedRows s p (length rs) ln l) ≡ bookRead n (joined n s rs (behindShip (l ∷ ls) ln (length rs) p))
+          → next n ln (tableOf rs) ls (movedRows s p (length rs) ln l) ≡ bookRead n (joined n s rs (behindShip (l ∷ ls) ln (length rs) p))
       go H true q =
-          ap (λ (c : Bool). next (cond c (rowless (Conditions s)) (afterRow s (rowRead (rowAt ln (length rs) p l))))) q
+          ap (λ (c : Bool). next n ln (tableOf rs) ls (cond c (rowless (Conditions s)) (afterRow s (rowRead (rowAt ln (length rs) p l))))) q
           ∙ run-conditions n s (tableOf rs) ls (ln + 1)
           ∙ joined-conditions n s rs (l ∷ ls) (onlyConditions (ln + 1) ls)
           ∙ ap (λ m. bookRead n (joined n s rs m)) (sym (behind-a3 l ls ln (length rs) p q))
       go H false q =
-          ap (λ (c : Bool). next (cond c (rowless (Conditions s)) (afterRow s (rowRead (rowAt ln (length rs) p l))))) q
+          ap (λ (c : Bool). next n ln (tableOf rs) ls (cond c (rowless (Conditions s)) (afterRow s (rowRead (rowAt ln (length rs) p l))))) q
           ∙ row H (rowAt ln (length rs) p l) refl
           ∙ ap (λ m. bookRead n (joined n s rs m)) (sym (behind-row l ls ln (length rs) p q))
 

@@ -48,6 +48,13 @@ abbrev picked : (ℕ → TextRead) → ℕ → Ans (Unit {0}) → TextRead
 picked k n (refused a b c) = refusedRead (refusal a b c) 0
 picked k n (got u) = k n
 
+-- Behind a line, with a tally; and the blocks alone.
+abbrev next : State → Table → ℕ → List ℕ → List (List ℕ) → Tally → TextRead
+next s t ln l ls y = let m : Moved = moved s (t .count) ln l in runs (m .state) (kept t m) (ln + 1) y ls
+
+abbrev blocks : State → Table → ℕ → List ℕ → List (List ℕ) → ℕ → TextRead
+blocks s t ln l ls n = let m : Moved = moved s (t .count) ln l in run (m .state) (kept t m) (ln + 1) n ls
+
 runs-counted : (ls : List (List ℕ)) (s : State) (t : Table) (ln c : ℕ) → 1 ≤ ln → c ≤ mostConditions
     → runs s t ln (record { conditions = c; over = 0 }) ls ≡ picked (λ n. run s t ln n ls) (c + conditionLines ls) (counted ln (mostConditions - c) ls)
 unfolding runs run counted conditionLines
@@ -56,36 +63,30 @@ runs-counted (l ∷ ls) s t ln c h k =
     let m : Moved = moved s (t .count) ln l in
     go (isCondition l) refl (eqb c mostConditions) refl (λ c k. runs-counted ls (m .state) (kept t m) (ln + 1) c (omega arith) k)
   where
-    abbrev next : Tally → TextRead
-    next y = let m : Moved = moved s (t .count) ln l in runs (m .state) (kept t m) (ln + 1) y ls
-
-    abbrev blocks : ℕ → TextRead
-    blocks n = let m : Moved = moved s (t .count) ln l in run (m .state) (kept t m) (ln + 1) n ls
-
     go : (f : Bool) → isCondition l ≡ f → (x : Bool) → eqb c mostConditions ≡ x
-        → ((c : ℕ) → c ≤ mostConditions → next (record { conditions = c; over = 0 }) ≡ picked blocks (c + conditionLines ls) (counted (ln + 1) (mostConditions - c) ls))
-        → next (tallied (record { conditions = c; over = 0 }) ln l) ≡ picked blocks (c + conditionLines (l ∷ ls)) (counted ln (mostConditions - c) (l ∷ ls))
+        → ((c : ℕ) → c ≤ mostConditions → next s t ln l ls (record { conditions = c; over = 0 }) ≡ picked (blocks s t ln l ls) (c + conditionLines ls) (counted (ln + 1) (mostConditions - c) ls))
+        → next s t ln l ls (tallied (record { conditions = c; over = 0 }) ln l) ≡ picked (blocks s t ln l ls) (c + conditionLines (l ∷ ls)) (counted ln (mostConditions - c) (l ∷ ls))
     go true p true q H =
         let e = eqb-true c mostConditions q in
-        ap (λ (f : Bool). next (cond f (record { conditions = c + 1; over = cond (eqb c mostConditions) ln 0 }) (record { conditions = c; over = 0 }))) p
-        ∙ ap (λ (x : Bool). next (record { conditions = c + 1; over = cond x ln 0 })) q
+        ap (λ (f : Bool). next s t ln l ls (cond f (record { conditions = c + 1; over = cond (eqb c mostConditions) ln 0 }) (record { conditions = c; over = 0 }))) p
+        ∙ ap (λ (x : Bool). next s t ln l ls (record { conditions = c + 1; over = cond x ln 0 })) q
         ∙ runs-over ls _ _ (ln + 1) (c + 1) ln (omega arith) h
-        ∙ sym (ap (picked blocks (c + conditionLines (l ∷ ls))) (counted-a3 l ls ln (mostConditions - c) p ∙ test-refused 5 ln 0 _ (le-ltb 0 (mostConditions - c) (omega arith))))
+        ∙ sym (ap (picked (blocks s t ln l ls) (c + conditionLines (l ∷ ls))) (counted-a3 l ls ln (mostConditions - c) p ∙ test-refused 5 ln 0 _ (le-ltb 0 (mostConditions - c) (omega arith))))
     go true p false q H =
         let e = eqb-false c mostConditions q in
         let d : mostConditions - (c + 1) ≡ mostConditions - c - 1 = omega arith in
         let n : c + 1 + conditionLines ls ≡ c + conditionLines (l ∷ ls) = omega (arith, lines-a3 l ls p) in
-        ap (λ (f : Bool). next (cond f (record { conditions = c + 1; over = cond (eqb c mostConditions) ln 0 }) (record { conditions = c; over = 0 }))) p
-        ∙ ap (λ (x : Bool). next (record { conditions = c + 1; over = cond x ln 0 })) q
+        ap (λ (f : Bool). next s t ln l ls (cond f (record { conditions = c + 1; over = cond (eqb c mostConditions) ln 0 }) (record { conditions = c; over = 0 }))) p
+        ∙ ap (λ (x : Bool). next s t ln l ls (record { conditions = c + 1; over = cond x ln 0 })) q
         ∙ H (c + 1) (omega arith)
-        ∙ ap (λ k. picked blocks k (counted (ln + 1) (mostConditions - (c + 1)) ls)) n
-        ∙ ap (λ k. picked blocks (c + conditionLines (l ∷ ls)) (counted (ln + 1) k ls)) d
-        ∙ sym (ap (picked blocks (c + conditionLines (l ∷ ls))) (counted-a3 l ls ln (mostConditions - c) p ∙ test-got _ _ _ _ (lt-ltb 0 (mostConditions - c) (omega arith))))
+        ∙ ap (λ k. picked (blocks s t ln l ls) k (counted (ln + 1) (mostConditions - (c + 1)) ls)) n
+        ∙ ap (λ k. picked (blocks s t ln l ls) (c + conditionLines (l ∷ ls)) (counted (ln + 1) k ls)) d
+        ∙ sym (ap (picked (blocks s t ln l ls) (c + conditionLines (l ∷ ls))) (counted-a3 l ls ln (mostConditions - c) p ∙ test-got _ _ _ _ (lt-ltb 0 (mostConditions - c) (omega arith))))
     go false p x q H =
-        ap (λ (f : Bool). next (cond f (record { conditions = c + 1; over = cond (eqb c mostConditions) ln 0 }) (record { conditions = c; over = 0 }))) p
+        ap (λ (f : Bool). next s t ln l ls (cond f (record { conditions = c + 1; over = cond (eqb c mostConditions) ln 0 }) (record { conditions = c; over = 0 }))) p
         ∙ H c k
-        ∙ ap (λ n. picked blocks n (counted (ln + 1) (mostConditions - c) ls)) (ap (c +_) (sym (lines-other l ls p)))
-        ∙ sym (ap (picked blocks (c + conditionLines (l ∷ ls))) (counted-other l ls ln (mostConditions - c) p))
+        ∙ ap (λ n. picked (blocks s t ln l ls) n (counted (ln + 1) (mostConditions - c) ls)) (ap (c +_) (sym (lines-other l ls p)))
+        ∙ sym (ap (picked (blocks s t ln l ls) (c + conditionLines (l ∷ ls))) (counted-other l ls ln (mostConditions - c) p))
 
 -- A whole text's lines.
 pub runs-told : (ls : List (List ℕ)) → runs Awaited (tableOf []) 1 noTally ls ≡ told (counted 1 mostConditions ls >>= λ u. got ls)
@@ -93,4 +94,4 @@ runs-told ls = runs-counted ls Awaited (tableOf []) 1 0 (omega arith) (omega ari
   where
     go : (m : Ans (Unit {0})) → picked (λ n. run Awaited (tableOf []) 1 n ls) (0 + conditionLines ls) m ≡ told (m >>= λ u. got ls)
     go (refused a b c) = sym (ap told (bind-refused _ refl))
-    go (got u) = run-frames (conditionLines ls) ls ∙ sym (ap told (bind-got _ refl))
+    go (got u) = let z : 0 + conditionLines ls ≡ conditionLines ls = omega arith in ap (λ n. run Awaited (tableOf []) 1 n ls) z ∙ run-frames (conditionLines ls) ls ∙ sym (ap told (bind-got _ refl))

@@ -3,6 +3,7 @@
 ghost use mathlib.Core.Path.{_≡_};
 ghost use mathlib.Core.List.{[]};
 ghost use Prim.Native.Nat.{_≤_, _<_};
+ghost use lib.ListN.{length};
 ghost use Rattle.rules.specs.Layout.{mostRows};
 ghost use Rattle.rules.specs.Walk.{shipFrame};
 ghost use Rattle.rules.specs.Booklet.{countedLines, isCondition};
@@ -320,7 +321,8 @@ fn no_line() -> ConditionLine
 }
 
 // The condition line at the front of a text, its first bytes to the front of a buffer. 'A3 over 4,096' needs no more of it than its head.
-pub fn read_condition(text: &[u8], line: usize, bytes: &mut [u8; 4099]) -> ConditionLine
+pub fn read_condition(text: &[u8], line: usize, bytes: &mut [u8]) -> ConditionLine
+    requires { ⌜ length (now bytes) ≡ 4099 ⌝ }
     ensures { λ r. ⌜ (r ≡ conditionLine line (now (text .entry))) × (now (bytes .exit) ≡ over (decoded (now (text .entry))) (now (bytes .entry))) ⌝ }
 {
     let l = text::line_at(text, bytes);
