@@ -19,7 +19,6 @@ use Rattle.blocks.specs.BlockAnswers.{sumsOfOne, blockOf}
 use Rattle.blocks.specs.declared.entries.Block.{Block}
 use Rattle.blocks.specs.declared.entries.Block.the-variants as block
 use Rattle.frames.specs.Sums.{Bounded}
-use Rattle.frames.specs.declared.LoadRead.the-variants.{Refused}
 use Rattle.frames.proofs.Bounds.{one-bounded}
 
 module _ (m : Ans walk.Block) (b : Block) (e : b ≡ blockOf m) where
