@@ -1,4 +1,6 @@
+pub mod Fronts
 pub mod Frames
 pub mod Tallies
 pub mod Lines
+pub mod ConditionLines
 pub mod OneAnswer

@@ -6,7 +6,7 @@ use Prim.Native.Nat.{ℕ, _+_, _-_, _≤_, _<_}
 use native.Mathlib.Omega.{arith}
 use lib.Dec.{eqb}
 use borrow.Author.Tests.{eqb-true, eqb-false, eq-eqb, ne-eqb, lt-ltb, le-ltb}
-use Rattle.rules.specs.Layout.{mostConditions}
+use Rattle.rules.specs.Layout.{mostRows, mostConditions}
 use Rattle.rules.specs.Outcome.{Ans, refused, got, test, _>>=_, _>>_}
 use Rattle.rules.specs.Booklet.{isCondition, conditionLines, counted, bookFrames}
 use Rattle.rules.proofs.walk.Outcome.{bind-got, bind-refused, test-got, test-refused}
@@ -14,7 +14,7 @@ use Rattle.rules.proofs.booklet.Counted.{lines-a3, lines-other, counted-a3, cou
 use Rattle.book.specs.Book.{refusal, tableOf}
 use Rattle.book.specs.declared.Table.{Table}
 use Rattle.reading.specs.TextAnswers.{refusedRead, told}
-use Rattle.reading.specs.Moved.{moved, tallied, ended, finished}
+use Rattle.reading.specs.Moved.{moved, oneMore, tallied, ended, finished}
 use Rattle.reading.specs.declared.State.{State}
 use Rattle.reading.specs.declared.State.the-variants.{Awaited}
 use Rattle.reading.specs.declared.Moved.{Moved}
@@ -95,3 +95,16 @@ runs-told ls = runs-counted ls Awaited (tableOf []) 1 0 (omega arith) (omega ari
     go : (m : Ans (Unit {0})) → picked (λ n. run Awaited (tableOf []) 1 n ls) (0 + conditionLines ls) m ≡ told (m >>= λ u. got ls)
     go (refused a b c) = sym (ap told (bind-refused _ refl))
     go (got u) = let z : 0 + conditionLines ls ≡ conditionLines ls = omega arith in ap (λ n. run Awaited (tableOf []) 1 n ls) z ∙ run-frames (conditionLines ls) ls ∙ sym (ap told (bind-got _ refl))
+
+-- There are no more of them than lines.
+pub tally-below : (y : Tally) (ln : ℕ) (l : List ℕ) → y .conditions < ln → tallied y ln l .conditions < ln + 1
+tally-below y ln l h = go (isCondition l)
+  where
+    go : (f : Bool) → cond f (oneMore y ln) y .conditions < ln + 1
+    go true = omega arith
+    go false = omega arith
+
+-- A blank table has no rows.
+pub none-yet : tableOf [] .count ≤ mostRows
+unfolding tableOf
+none-yet = omega arith

@@ -85,8 +85,11 @@ withRow t r = record { rows = set (t .rows) (t .count) r; count = t .count + 1 }
 
 -- ---- the condition lines, wherever they stand
 -- The 25th is kept in mind by its number.
+abbrev pub oneMore : Tally → ℕ → Tally
+oneMore t ln = record { conditions = t .conditions + 1; over = cond (eqb (t .conditions) mostConditions) ln (t .over) }
+
 abbrev pub tallied : Tally → ℕ → List ℕ → Tally
-tallied t ln l = cond (isCondition l) (record { conditions = t .conditions + 1; over = cond (eqb (t .conditions) mostConditions) ln (t .over) }) t
+tallied t ln l = cond (isCondition l) (oneMore t ln) t
 
 -- ---- where the text ends, before line ln
 -- 5: 'empty text', 'no A3', at the number of lines.

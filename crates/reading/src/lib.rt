@@ -11,7 +11,7 @@ ghost use Rattle.book.specs.Book.{tableOf};
 ghost use Rattle.blocks.specs.BlockAnswers.{shipRead};
 ghost use Rattle.text.specs.Line.{decoded, over};
 ghost use Rattle.reading.specs.TextAnswers.{told, refusedRead, answerFault, noLine, conditionLine};
-ghost use Rattle.reading.specs.Moved.{Cut, OfLine, rowless, afterShip, afterRow, movedRows, movedConditions, moved, tallied, finished};
+ghost use Rattle.reading.specs.Moved.{Cut, OfLine, rowless, afterShip, afterRow, movedRows, movedConditions, moved, oneMore, tallied, finished};
 use blocks::refusal;
 use blocks::row::RowAnswer;
 use blocks::row::RowRead;
@@ -224,23 +224,35 @@ fn moves(state: State, front: &[u8], n: usize, line: usize, rows: usize) -> Move
     }
 }
 
-// One line more: 'a 25th condition line gives 5 there'.
+// 'A 25th condition line gives 5 there': its number, once it has come.
+fn over_at(tally: Tally, line: usize) -> usize
+    ensures { λ r. ⌜ r ≡ oneMore tally line .over ⌝ }
+{
+    if tally.conditions == MOST_CONDITIONS {
+        return line;
+    }
+    tally.over
+}
+
+fn one_more(tally: Tally, line: usize) -> Tally
+    requires { ⌜ tally .conditions < line ⌝ }
+    ensures { λ r. ⌜ r ≡ oneMore tally line ⌝ }
+{
+    Tally {
+        conditions: tally.conditions + 1,
+        over: over_at(tally, line),
+    }
+}
+
+// One line more.
 fn tallied(tally: Tally, front: &[u8], line: usize) -> Tally
     requires { ⌜ tally .conditions < line ⌝ }
     ensures { λ r. ⌜ r ≡ tallied tally line (now (front .entry)) ⌝ }
 {
-    if !begins_a3(front) {
-        return tally;
+    if begins_a3(front) {
+        return one_more(tally, line);
     }
-    let over = if tally.conditions == MOST_CONDITIONS {
-        line
-    } else {
-        tally.over
-    };
-    Tally {
-        conditions: tally.conditions + 1,
-        over,
-    }
+    tally
 }
 
 // What it comes to where the text ends, before this line.

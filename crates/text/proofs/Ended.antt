@@ -1,6 +1,6 @@
 -- What ends a line: one fact for each way out.
 use mathlib.Core.Path.{_≡_, refl}
-use mathlib.Core.Bool.{cond}
+use mathlib.Core.Bool.{Bool, true, false, cond}
 use mathlib.Core.List.{List, [], _∷_}
 use Prim.Native.Nat.{ℕ, zero, suc, _-_, _*_}
 use native.Mathlib.Omega.{arith}
@@ -41,3 +41,19 @@ module _ (n : ℕ) (s : List ℕ) where
 pub line-ended : (t : List ℕ) (n : ℕ) → n ≡ length (decoded t) → ended n (take (length t - 2 * n) (drop (2 * n) t)) ≡ lineOf t
 unfolding lineOf
 line-ended t n e = rw (take-all (length t - 2 * n) (drop (2 * n) t) (rw (length-drop (2 * n) t) (omega arith)), e)
+
+-- A line has as many bytes as it says.
+ended-long : (k n : ℕ) (s : List ℕ) → ended k s ≡ Line n → k ≡ n
+unfolding ended
+ended-long zero n [] e = absurd (let z : _≡_ {A = ℕ} 0 1 = cc in omega arith)
+ended-long zero n (c ∷ s) e = absurd (let z : _≡_ {A = ℕ} 0 1 = cc in omega arith)
+ended-long (suc k) n [] e = absurd (let z : _≡_ {A = ℕ} 0 1 = cc in omega arith)
+ended-long (suc k) n (c ∷ s) e = go (eqb c LF) e
+  where
+    go : (f : Bool) → cond f (Line (suc k)) Not ≡ Line n → suc k ≡ n
+    go true e = cc
+    go false e = absurd (let z : _≡_ {A = ℕ} 0 1 = cc in omega arith)
+
+pub line-long : (t : List ℕ) (n : ℕ) → lineOf t ≡ Line n → length (decoded t) ≡ n
+unfolding lineOf
+line-long t n e = ended-long (length (decoded t)) n (drop (2 * length (decoded t)) t) e

@@ -1,56 +1,64 @@
+-- `condition_line` meets its contract: another condition line, the head of a line, or the whole of it.
+use mathlib.Core.Path.{ap, _∙_}
+use native.Mathlib.Omega.{arith}
 use borrow.Author.Needs.{needs}
+use denote.Ref.{now}
+use Rattle.cursor.specs.BlockParts.{headFault}
+use Rattle.reading.specs.declared.State.the-variants.{Refused}
+use Rattle.reading.proofs.Fronts.{begun, more-begun, more-long, more-whole}
 use Rattle.reading.proofs.condition_line.Statement.{statement}
 use Rattle.reading.proofs.condition_line.Tie as tie
-use Rattle.reading.proofs.condition_line.Reads as reads
-use Rattle.reading.proofs.condition_line.Lts as lts
-use Rattle.blocks.proofs.refusal.Reads as refusal-reads
-use Rattle.cursor.proofs.Head.fault.Reads as fault-reads
-use Rattle.cursor.proofs.begin.Reads as begin-reads
-use Rattle.frames.proofs.long_frame.Reads as long-frame-reads
-use Rattle.reading.proofs.begins_a3.Reads as begins-a3-reads
 
--- src/lib.rt:200:8
 begins-a3-requires : tie.Need-begins-a3-requires
 begins-a3-requires c κs = search needs
 
--- src/lib.rt:201:9
 returns : tie.Need-returns
-returns c = ?
+returns c = λ l F.
+    let a = c .before .before .before .args in
+    more-begun (now (a .front)) (a .n) l F (a .ship) (a .line) (begun (now (a .front)) (a .n) l F (a .ship) (a .line) _ _ (c .before .begins-a3 .ensures) (c .if1 .taken))
 
--- src/lib.rt:204:31
 long-frame-requires : tie.Need-long-frame-requires
-long-frame-requires c κs = ?
+long-frame-requires c κs = omega (arith, c .before .before .before .before .pre (c .if2 .taken))
 
--- src/lib.rt:204:9
 returns-2 : tie.Need-returns-2
-returns-2 c = ?
+returns-2 c = λ l F.
+    let j = c .before .before in
+    let a = j .before .before .before .args in
+    more-long (now (a .front)) (a .n) l F (a .ship) (a .line) (begun (now (a .front)) (a .n) l F (a .ship) (a .line) _ _ (j .before .begins-a3 .ensures) (j .if1 .left)) _ (c .long-frame .ensures)
 
--- src/lib.rt:206:9
 begin-requires : tie.Need-begin-requires
 begin-requires c κs = search needs
 
 enum-told : tie.Need-enum-told
 enum-told c = search needs
 
--- src/lib.rt:208:31
 enum-told-2 : tie.Need-enum-told-2
 enum-told-2 c = search needs
 
--- src/lib.rt:208:31
 fault-requires : tie.Need-fault-requires
 fault-requires c κs = search needs
 
--- src/lib.rt:208:9
 returns-3 : tie.Need-returns-3
-returns-3 c = ?
+returns-3 c = λ l F.
+    let k = c .before in
+    let h = k .before .before in
+    let i = h .before in
+    let j = i .before in
+    let a = j .before .before .before .args in
+    ap Refused (c .fault .ensures ∙ ap headFault (k .enum-told2 .given .1))
+    ∙ more-whole (now (a .front)) (a .n) l F (a .ship) (a .line) (begun (now (a .front)) (a .n) l F (a .ship) (a .line) _ _ (j .before .begins-a3 .ensures) (j .if1 .left)) (i .if2 .left) _ _ (h .begin .ensures) (k .enum-told2 .given .1)
 
--- src/lib.rt:210:20
 refusal-requires : tie.Need-refusal-requires
 refusal-requires c κs = search needs
 
--- src/lib.rt:196:1
 returns-4 : tie.Need-returns-4
-returns-4 c = ?
+returns-4 c = λ l F.
+    let k = c .before in
+    let h = k .before .before in
+    let i = h .before in
+    let j = i .before in
+    let a = j .before .before .before .args in
+    ap Refused (c .refusal .ensures) ∙ more-whole (now (a .front)) (a .n) l F (a .ship) (a .line) (begun (now (a .front)) (a .n) l F (a .ship) (a .line) _ _ (j .before .begins-a3 .ensures) (j .if1 .left)) (i .if2 .left) _ _ (h .begin .ensures) (k .enum-told .given .1)
 
 pub condition-line-spec : {M : Type 1} → statement M
 condition-line-spec =

@@ -1,90 +1,69 @@
+-- `finish` meets its contract: the 25th condition line, or case by case.
+use native.Mathlib.Omega.{arith}
+use borrow.Author.Tests.{eq-eqb, ne-eqb}
 use borrow.Author.Needs.{needs}
 use Rattle.reading.proofs.finish.Statement.{statement}
 use Rattle.reading.proofs.finish.Tie as tie
-use Rattle.reading.proofs.finish.Reads as reads
-use Rattle.reading.proofs.finish.Lts as lts
-use Rattle.blocks.proofs.refusal.Reads as refusal-reads
-use Rattle.reading.proofs.refused.Reads as refused-reads
 
--- src/lib.rt:251:24
 refusal-requires : tie.Need-refusal-requires
 refusal-requires c κs = search needs
 
--- src/lib.rt:251:9
 refused-requires : tie.Need-refused-requires
 refused-requires c κs = search needs
 
--- src/lib.rt:251:9
 returns : tie.Need-returns
-returns c = ?
+returns c = rw (c .refused .ensures, c .before .refusal .ensures, ne-eqb _ 0 (c .before .before .if1 .taken))
 
--- src/lib.rt:255:46
 enum-told : tie.Need-enum-told
 enum-told c = search needs
 
--- src/lib.rt:255:46
 sub-refusal : tie.Need-sub-refusal
 sub-refusal c = search needs
 
--- src/lib.rt:255:35
 refusal-requires-2 : tie.Need-refusal-requires-2
 refusal-requires-2 c κs = search needs
 
--- src/lib.rt:255:27
 refused-requires-2 : tie.Need-refused-requires-2
 refused-requires-2 c κs = search needs
 
--- src/lib.rt:256:64
 enum-told-2 : tie.Need-enum-told-2
 enum-told-2 c = search needs
 
--- src/lib.rt:256:64
 sub-refusal-2 : tie.Need-sub-refusal-2
 sub-refusal-2 c = search needs
 
--- src/lib.rt:256:53
 refusal-requires-3 : tie.Need-refusal-requires-3
 refusal-requires-3 c κs = search needs
 
--- src/lib.rt:256:45
 refused-requires-3 : tie.Need-refused-requires-3
 refused-requires-3 c κs = search needs
 
--- src/lib.rt:257:27
 enum-known-state : tie.Need-enum-known-state
 enum-known-state c = search needs
 
--- src/lib.rt:260:33
 mul-t15 : tie.Need-mul-t15
 mul-t15 c = search needs
 
--- src/lib.rt:260:21
 add-t16 : tie.Need-add-t16
 add-t16 c = search needs
 
--- src/lib.rt:265:24
 enum-known-state-2 : tie.Need-enum-known-state-2
 enum-known-state-2 c = search needs
 
--- src/lib.rt:265:30
 refused-requires-4 : tie.Need-refused-requires-4
 refused-requires-4 c κs = search needs
 
--- src/lib.rt:246:1
 returns-2 : tie.Need-returns-2
-returns-2 c = ?
+returns-2 c = rw (c .refused2 .ensures, c .before .refusal2 .ensures, c .before .before .enum-told .given .1, eq-eqb _ 0 (c .before .before .before .before .if1 .left))
 
--- src/lib.rt:246:1
 returns-3 : tie.Need-returns-3
-returns-3 c = ?
+returns-3 c = rw (c .refused3 .ensures, c .before .refusal3 .ensures, c .before .before .enum-told2 .given .1, eq-eqb _ 0 (c .before .before .before .before .if1 .left))
 
--- src/lib.rt:246:1
 returns-4 : tie.Need-returns-4
-returns-4 c = ?
+returns-4 c = rw (c .before .before .state .given .1, eq-eqb _ 0 (c .before .before .before .before .if1 .left))
 
--- src/lib.rt:246:1
 returns-5 : tie.Need-returns-5
-returns-5 c = ?
+returns-5 c = rw (c .refused4 .ensures, c .before .before .state2 .given .1, eq-eqb _ 0 (c .before .before .before .before .if1 .left))
 
 pub finish-spec : {M : Type 1} → statement M
 finish-spec =

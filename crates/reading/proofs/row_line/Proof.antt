@@ -1,62 +1,64 @@
+-- `row_line` meets its contract: a condition line in its place, the head of a line, or the whole of it.
+use native.Mathlib.Omega.{arith}
 use borrow.Author.Needs.{needs}
+use denote.Ref.{now}
+use Rattle.reading.proofs.Fronts.{in-place, rows-begun, rows-long, rows-whole}
 use Rattle.reading.proofs.row_line.Statement.{statement}
 use Rattle.reading.proofs.row_line.Tie as tie
-use Rattle.reading.proofs.row_line.Reads as reads
-use Rattle.reading.proofs.row_line.Lts as lts
-use Rattle.frames.proofs.long_frame.Reads as long-frame-reads
-use Rattle.frames.proofs.row_frame.Reads as row-frame-reads
-use Rattle.numbers.proofs.both.Reads as both-reads
-use Rattle.reading.proofs.after_row.Reads as after-row-reads
-use Rattle.reading.proofs.begins_a3.Reads as begins-a3-reads
-use Rattle.reading.proofs.rowless.Reads as rowless-reads
 
--- src/lib.rt:185:13
 begins-a3-requires : tie.Need-begins-a3-requires
 begins-a3-requires c κs = search needs
 
--- src/lib.rt:185:8
 both-requires : tie.Need-both-requires
 both-requires c κs = search needs
 
--- src/lib.rt:186:9
 rowless-requires : tie.Need-rowless-requires
 rowless-requires c κs = search needs
 
--- src/lib.rt:186:9
 returns : tie.Need-returns
-returns c = ?
+returns c = λ l F.
+    let i = c .before in
+    let b = i .before in
+    let a = b .before .before .before .args in
+    rw (c .rowless .ensures) (rows-begun (now (a .front)) (a .n) l F (a .ship) (a .last) (a .rows) (a .line) (in-place (now (a .front)) (a .n) l F (a .ship) (a .last) (a .rows) (a .line) _ _ _ (b .before .begins-a3 .ensures) (b .both .ensures) (i .if1 .taken)))
 
--- src/lib.rt:189:24
 shared-slice-read-both : tie.Need-shared-slice-read-both
-shared-slice-read-both c = ?
+shared-slice-read-both c = let i = c .before in omega (arith, i .before .before .before .before .before .pre (i .if2 .taken))
 
--- src/lib.rt:189:13
 both-requires-2 : tie.Need-both-requires-2
 both-requires-2 c κs = search needs
 
--- src/lib.rt:190:39
 long-frame-requires : tie.Need-long-frame-requires
-long-frame-requires c κs = ?
+long-frame-requires c κs = let i = c .before .before in omega (arith, i .before .before .before .before .before .pre (i .if2 .taken))
 
--- src/lib.rt:190:9
 rowless-requires-2 : tie.Need-rowless-requires-2
 rowless-requires-2 c κs = search needs
 
--- src/lib.rt:190:9
 returns-2 : tie.Need-returns-2
-returns-2 c = ?
+returns-2 c = λ l F.
+    let f = c .before in
+    let d = f .before in
+    let i = d .before .before in
+    let j = i .before in
+    let b = j .before in
+    let a = b .before .before .before .args in
+    rw (c .rowless2 .ensures)
+    (rows-long (now (a .front)) (a .n) l F (a .ship) (a .last) (a .rows) (a .line) (in-place (now (a .front)) (a .n) l F (a .ship) (a .last) (a .rows) (a .line) _ _ _ (b .before .begins-a3 .ensures) (b .both .ensures) (j .if1 .left)) (i .if2 .taken) _ (d .both2 .ensures) _ (f .long-frame .ensures))
 
--- src/lib.rt:192:21
 row-frame-requires : tie.Need-row-frame-requires
 row-frame-requires c κs = search needs
 
--- src/lib.rt:192:5
 after-row-requires : tie.Need-after-row-requires
 after-row-requires c κs = search needs
 
--- src/lib.rt:181:1
 returns-3 : tie.Need-returns-3
-returns-3 c = ?
+returns-3 c = λ l F.
+    let f = c .before in
+    let i = f .before in
+    let j = i .before in
+    let b = j .before in
+    let a = b .before .before .before .args in
+    rw (c .after-row .ensures) (rows-whole (now (a .front)) (a .n) l F (a .ship) (a .last) (a .rows) (a .line) (in-place (now (a .front)) (a .n) l F (a .ship) (a .last) (a .rows) (a .line) _ _ _ (b .before .begins-a3 .ensures) (b .both .ensures) (j .if1 .left)) (i .if2 .left) _ (f .row-frame .ensures))
 
 pub row-line-spec : {M : Type 1} → statement M
 row-line-spec =

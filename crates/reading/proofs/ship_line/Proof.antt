@@ -1,35 +1,39 @@
+-- `ship_line` meets its contract: the whole line, or its head.
+use mathlib.Core.Path.{ap, sym, _∙_}
+use native.Mathlib.Omega.{arith}
+use denote.Ref.{now}
+use lib.Dec.{eqb}
+use Rattle.rules.specs.Walk.{shipFrame}
+use Rattle.blocks.specs.BlockAnswers.{shipRead}
+use Rattle.frames.proofs.Long.{long-ship}
+use Rattle.reading.specs.Moved.{afterShip}
+use Rattle.reading.specs.declared.State.the-variants.{Refused}
+use Rattle.reading.proofs.Fronts.{front-whole, front-cut, long-alike}
 use borrow.Author.Needs.{needs}
 use Rattle.reading.proofs.ship_line.Statement.{statement}
 use Rattle.reading.proofs.ship_line.Tie as tie
-use Rattle.reading.proofs.ship_line.Reads as reads
-use Rattle.reading.proofs.ship_line.Lts as lts
-use Rattle.frames.proofs.long_frame.Reads as long-frame-reads
-use Rattle.frames.proofs.ship_frame.Reads as ship-frame-reads
-use Rattle.reading.proofs.after_ship.Reads as after-ship-reads
 
--- src/lib.rt:175:66
 shared-slice-read-long-frame : tie.Need-shared-slice-read-long-frame
-shared-slice-read-long-frame c = ?
+shared-slice-read-long-frame c = let s = c .before .before .before in omega (arith, s .pre (c .before .if1 .taken))
 
--- src/lib.rt:175:31
 long-frame-requires : tie.Need-long-frame-requires
-long-frame-requires c κs = ?
+long-frame-requires c κs = let s = c .before .before .before in omega (arith, s .pre (c .before .if1 .taken))
 
--- src/lib.rt:175:9
 returns : tie.Need-returns
-returns c = ?
+returns c = λ l F.
+    let a = c .before .before .before .before .args in
+    ap Refused (c .long-frame .ensures ∙ long-alike (now (a .front)) (a .n) l F (a .line) (λ b. eqb b 0xA1)) ∙ sym (ap afterShip (long-ship (a .line) l (front-cut (now (a .front)) (a .n) l F (c .before .before .if1 .taken))))
 
--- src/lib.rt:177:16
 ship-frame-requires : tie.Need-ship-frame-requires
 ship-frame-requires c κs = search needs
 
--- src/lib.rt:177:5
 after-ship-requires : tie.Need-after-ship-requires
 after-ship-requires c κs = search needs
 
--- src/lib.rt:170:1
 returns-2 : tie.Need-returns-2
-returns-2 c = ?
+returns-2 c = λ l F.
+    let a = c .before .before .before .before .args in
+    c .after-ship .ensures ∙ ap afterShip (c .before .ship-frame .ensures ∙ ap (λ x. shipRead (shipFrame (a .line) x)) (front-whole (now (a .front)) (a .n) l F (c .before .before .if1 .left)))
 
 pub ship-line-spec : {M : Type 1} → statement M
 ship-line-spec =

@@ -1,0 +1,67 @@
+-- The condition line at the front of a text: one fact for each way out.
+use mathlib.Core.Path.{_≡_, refl, ap, ap₂, sym, _∙_}
+use mathlib.Core.Bool.{Bool, true, false}
+use mathlib.Core.List.{List, [], _∷_}
+use Prim.Native.Nat.{ℕ, _+_, _*_, _≤_, _<_}
+use native.Mathlib.Omega.{arith}
+use lib.Dec.{ltb}
+use lib.ListN.{length, take}
+use lib.Seq.{take-all}
+use Rattle.rules.specs.Booklet.{conditionAt}
+use Rattle.rules.specs.Parts.{be2}
+use Rattle.book.specs.declared.Refusal.{Refusal}
+use Rattle.text.specs.Line.{decoded, over, lineOf}
+use Rattle.text.specs.declared.LineRead.{LineRead}
+use Rattle.text.specs.declared.LineRead.the-variants as line
+use Rattle.text.proofs.Decoded.{over-held, over-length}
+use Rattle.text.proofs.Ended.{line-long}
+use Rattle.frames.specs.FrameAnswers.{conditionRead, longCondition}
+use Rattle.frames.specs.declared.ConditionRead.{ConditionRead}
+use Rattle.frames.specs.declared.ConditionRead.the-variants.{Refused}
+use Rattle.frames.proofs.Long.{long-condition}
+use Rattle.reading.specs.TextAnswers.{noLine, lineRead, conditionLine}
+use Rattle.reading.specs.declared.ConditionLine.{ConditionLine}
+
+-- The length in the head is that of the buffer's head.
+head-alike : (b out : List ℕ) → 3 ≤ length b → 3 ≤ length out → be2 (over b out) 1 ≡ be2 b 1
+unfolding over
+head-alike (x ∷ y ∷ z ∷ b) (o ∷ p ∷ q ∷ out) h k = refl
+head-alike [] out h k = absurd (omega arith)
+head-alike (x ∷ []) out h k = absurd (omega arith)
+head-alike (x ∷ y ∷ []) out h k = absurd (omega arith)
+head-alike (x ∷ y ∷ z ∷ b) [] h k = absurd (omega arith)
+head-alike (x ∷ y ∷ z ∷ b) (o ∷ []) h k = absurd (omega arith)
+head-alike (x ∷ y ∷ z ∷ b) (o ∷ p ∷ []) h k = absurd (omega arith)
+
+module _ (ln : ℕ) (t : List ℕ) (r : LineRead) (e : r ≡ lineOf t) where
+  -- No line.
+  pub line-none : ((n : ℕ) → r ≡ line.Line n → ⊥) → noLine ≡ conditionLine ln t
+  unfolding conditionLine
+  line-none h = rw (← e) (go r h)
+    where
+      go : (r : LineRead) → ((n : ℕ) → r ≡ line.Line n → ⊥) → noLine ≡ lineRead ln (decoded t) r
+      go (line.Line n) h = absurd (h n refl)
+      go line.Not h = refl
+      go line.End h = refl
+
+  module _ (n : ℕ) (is : r ≡ line.Line n) (bytes out : List ℕ) (f : out ≡ over (decoded t) bytes) (room : length bytes ≡ 4_099) where
+    long : length (decoded t) ≡ n
+    long = line-long t n (sym e ∙ is)
+
+    some : (x : ConditionRead) → x ≡ conditionRead (conditionAt ln (decoded t)) → (k : ℕ) → k ≡ 2 * n + 1 → record { read = x; taken = k } ≡ conditionLine ln t
+    unfolding conditionLine
+    some x p k q = rw (p, q, ← e, is)
+
+    -- One that is longer than any condition, by its head.
+    pub line-head : 4_099 < n → (x : Refusal) → x ≡ longCondition ln (be2 out 1) n → record { read = Refused x; taken = 2 * n + 1 } ≡ conditionLine ln t
+    line-head h x p =
+        some (Refused x)
+        (ap Refused (p ∙ rw (f, head-alike (decoded t) bytes (omega (arith, long)) (omega arith), ← long)) ∙ sym (long-condition ln (decoded t) (omega (arith, long))))
+        _ refl
+
+    -- One of which the buffer holds the whole.
+    pub line-whole : n ≤ 4_099 → (x : ConditionRead) → x ≡ conditionRead (conditionAt ln (take n out)) → record { read = x; taken = 2 * n + 1 } ≡ conditionLine ln t
+    line-whole h x p =
+        some x
+        (p ∙ ap (λ l. conditionRead (conditionAt ln l)) (ap (take n) f ∙ over-held n (decoded t) bytes (omega (arith, long)) (omega arith) ∙ take-all n (decoded t) (omega (arith, long))))
+        _ refl
