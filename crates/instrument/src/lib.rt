@@ -1,12 +1,15 @@
 // The instrument: one text in, one report line out for each of its conditions. Every text of every length is answered, and no caller is asked to have looked first.
 ghost use mathlib.Core.Path.{_≡_};
+ghost use mathlib.Core.Bool.{cond};
 ghost use Prim.Native.Nat.{_≤_, _<_};
+ghost use lib.Dec.{eqb};
 ghost use lib.ListN.{length};
 ghost use Rattle.rules.specs.Outcome.{refused};
+ghost use Rattle.rules.specs.Layout.{mostCharacters};
 ghost use Rattle.rules.specs.Report.{noJudgement, reportLength};
-ghost use Rattle.rules.specs.Answer.{number, written};
+ghost use Rattle.rules.specs.Answer.{number, bytesSent, written, room, limited};
 ghost use Rattle.book.specs.Book.{judgementOf};
-ghost use Rattle.instrument.specs.Sent.{Sent, SentJudged, SentRead, OfReading};
+ghost use Rattle.instrument.specs.Sent.{Sent, SentJudged, OfReading, SentCondition, OfLine, SentLine, OfBooklet, SentAll};
 use book::Judgement;
 use book::Refusal;
 use frames::Condition;
@@ -71,6 +74,8 @@ fn judge_condition(
 // A condition line is refused for itself, or judged.
 fn judge_line(ship: book::Ship, read: ConditionRead, table: book::Table, report: &mut [u8]) -> u8
     requires { ⌜ reportLength ≤ length (now report) ⌝ }
+    requires { ⌜ OfLine ship read table ⌝ }
+    ensures { λ r. ⌜ SentLine ship read table (now (report .entry)) r (now (report .exit)) ⌝ }
 {
     let ConditionRead::Within(condition) = read else {
         return refuse(read.fault(), report);
@@ -79,14 +84,21 @@ fn judge_line(ship: book::Ship, read: ConditionRead, table: book::Table, report:
 }
 
 // The first number that is not 0.
-fn first_number(so_far: u8, next: u8) -> u8 {
-    if so_far == 0 { next } else { so_far }
+fn first_number(first: u8, next: u8) -> u8
+    ensures { λ r. ⌜ r ≡ cond (eqb first 0) next first ⌝ }
+{
+    if first == 0 { next } else { first }
 }
 
 // 'One report line per condition, in order.'
-fn judge_conditions(text: &[u8], front: Front, table: book::Table, report: &mut [u8]) -> u8 {
+fn judge_conditions(text: &[u8], front: Front, table: book::Table, report: &mut [u8]) -> u8
+    requires { ⌜ OfBooklet (now text) front table (now report) ⌝ }
+    ensures { λ r. ⌜ SentAll (now (text .entry)) front table (now (report .entry)) r (now (report .exit)) ⌝ }
+{
     let mut bytes = [0u8; 4099];
-    let mut rest = &text[front.at..];
+    let start = front.at;
+    let ship = front.ship;
+    let mut rest = &text[start..];
     let mut line = 2 + table.count;
     let mut at = 0;
     let mut number = 0;
@@ -94,7 +106,7 @@ fn judge_conditions(text: &[u8], front: Front, table: book::Table, report: &mut 
         let c = reading::read_condition(rest, line, &mut bytes);
         let read = c.read;
         let taken = c.taken;
-        let next = judge_line(front.ship, read, table, &mut report[at..at + REPORT]);
+        let next = judge_line(ship, read, table, &mut report[at..at + REPORT]);
         number = first_number(number, next);
         rest = &rest[taken..];
         line = line + 1;
@@ -104,15 +116,19 @@ fn judge_conditions(text: &[u8], front: Front, table: book::Table, report: &mut 
 }
 
 // What is sent back: the number of document 01 (0 to 9), and how many bytes of the buffer are written.
-pub struct Sent {
+pub struct Reply {
     pub number: u8,
     pub length: usize,
 }
 
 // `judge` with a limit of one's own, where that is less than the library's.
-pub fn judge_within(text: &[u8], limit: usize, report: &mut [u8]) -> Sent {
+pub fn judge_within(text: &[u8], limit: usize, report: &mut [u8]) -> Reply
+    ensures { λ r. ⌜ r .number ≡ number (limited limit) (now (text .entry)) (now (report .entry)) ⌝ }
+    ensures { λ r. ⌜ r .length ≡ bytesSent (limited limit) (now (text .entry)) (now (report .entry)) ⌝ }
+    ensures { λ _. ⌜ now (report .exit) ≡ written (limited limit) (now (text .entry)) (now (report .entry)) ⌝ }
+{
     if report.len() < REPORT {
-        return Sent {
+        return Reply {
             number: 9,
             length: 0,
         };
@@ -121,7 +137,7 @@ pub fn judge_within(text: &[u8], limit: usize, report: &mut [u8]) -> Sent {
     let read = reading::read_text(text, most);
     let conditions = read.conditions;
     if report.len() < REPORT * conditions {
-        return Sent {
+        return Reply {
             number: 9,
             length: 0,
         };
@@ -129,12 +145,12 @@ pub fn judge_within(text: &[u8], limit: usize, report: &mut [u8]) -> Sent {
     let answer = read.answer;
     let table = read.table;
     let reading::Answer::Whole(front) = answer else {
-        return Sent {
+        return Reply {
             number: refuse(answer.fault(), report),
             length: REPORT,
         };
     };
-    Sent {
+    Reply {
         number: judge_conditions(text, front, table, report),
         length: REPORT * conditions,
     }
