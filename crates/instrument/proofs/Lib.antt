@@ -5,4 +5,7 @@ pub mod Weighings
 pub mod LineReport
 pub mod LineFigures
 pub mod Replies
+pub mod Placed
+pub mod Faults
+pub mod FirstReport
 pub mod OneAnswer
