@@ -11,4 +11,6 @@ pub mod FirstReport
 pub mod LineTags
 pub mod TwoLines
 pub mod EitherSet
+pub mod Within
+pub mod OfOne
 pub mod OneAnswer
