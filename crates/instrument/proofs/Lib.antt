@@ -13,4 +13,7 @@ pub mod TwoLines
 pub mod EitherSet
 pub mod Within
 pub mod OfOne
+pub mod OneTag
+pub mod Apart
+pub mod Promises
 pub mod OneAnswer

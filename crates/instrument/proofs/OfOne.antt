@@ -17,7 +17,7 @@ use Rattle.rules.specs.Walk.{read}
 use Rattle.rules.specs.Report.{Judgement, reportLength}
 use Rattle.rules.specs.Booklet.{Booklet, readWhole}
 use Rattle.rules.specs.Apart.{BeginA3, spellBooklet, AllowedWhole, AllowedLine, lineAt, readingAt}
-use Rattle.rules.specs.Answer.{answered, numberOf, reportOf, answers, firstNumber, number, written, room}
+use Rattle.rules.specs.Answer.{answered, numberOf, reportOf, answers, answer, firstNumber, number, written, room}
 use Rattle.rules.proofs.layout.Lines.{lines-sound}
 use Rattle.rules.proofs.walk.WholeText as texts
 use Rattle.rules.proofs.booklet.Room.{room-read}
@@ -38,13 +38,16 @@ module _ {t : List ℕ} (a : AllowedWhole mostCharacters t) (one : length (a .0 
   answers-one : answers (a .0) ≡ answered t ∷ []
   answers-one = of-one mostCharacters t (a .0) (read-back a) (omega arith) one
 
+  pub answer-one : answer (a .0) 0 ≡ answered t
+  answer-one = ap (λ xs. getD xs 0 (refused 0 0 0)) answers-one
+
   pub room-one : room mostCharacters t ≡ reportLength
   room-one = room-read mostCharacters t (a .0) (read-back a) ∙ ap (reportLength *_) one
 
   pub sent-one : {before : List ℕ} {n : ℕ} {after : List ℕ} → Run t before n after → (n ≡ numberOf (answered t)) × (reportIn 0 after ≡ reportOf (answered t))
   sent-one run = (
     numbered-first run a ∙ ap firstNumber answers-one ∙ first-alone (answered t),
-    report-at run a 0 (omega arith) ∙ ap (λ xs. reportOf (getD xs 0 (refused 0 0 0))) answers-one,
+    report-at run a 0 (omega arith) ∙ ap reportOf answer-one,
   )
 
 -- Whether what is read is a booklet of one.

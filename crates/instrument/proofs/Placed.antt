@@ -1,17 +1,18 @@
 -- Where a refusal stands: that of the whole text in one of its own lines, that of a condition at a byte of its own line.
 use mathlib.Core.Path.{_≡_, refl, ap, sym, _∙_}
 use mathlib.Core.List.{List, [], _∷_}
+use mathlib.Core.Logic.{_⊎_, inl, inr}
 use Prim.Native.Nat.{ℕ, zero, suc, _+_, _-_, _*_, _≤_, _<_}
 use native.Mathlib.Omega.{arith}
 use lib.ListN.{length, getD}
 use borrow.Author.Tests.{leb-true, leb-false}
 use Rattle.rules.specs.Text.{hex, text, Lines}
-use Rattle.rules.specs.Blocks.{Row}
+use Rattle.rules.specs.Blocks.{Row, conditionTag}
 use Rattle.rules.specs.Layout.{mostCharacters}
 use Rattle.rules.specs.Met.{behindRows}
-use Rattle.rules.specs.Places.{LineAt, firstLine, laterLine, Placed, tooLong, emptyText, atByte}
+use Rattle.rules.specs.Places.{LineAt, firstLine, laterLine, Placed, tooLong, emptyText, atByte, unweighed}
 use Rattle.rules.specs.Booklet.{countedLines, bookFrames, readWhole}
-use Rattle.rules.specs.Apart.{linesOf, spellBooklet, AllowedWhole, lineAt}
+use Rattle.rules.specs.Apart.{linesOf, spellBooklet, AllowedWhole, lineAt, readingAt}
 use Rattle.rules.proofs.layout.Lines.{length-hex, hex-no-lf, lines-sound}
 use Rattle.rules.proofs.layout.Parts.{full-length}
 use Rattle.rules.proofs.walk.Outcome.{bind-refused, test-got}
@@ -22,7 +23,11 @@ use Rattle.rules.proofs.booklet.Counted.{countedLines-steps}
 use Rattle.rules.proofs.booklet.Refusals.{counted-refusal, bookFrames-refusal}
 use Rattle.rules.proofs.booklet.WholeText.{countedLines-sound}
 use Rattle.rules.proofs.booklet.Frames.{framed, Lines-booklet}
-use Rattle.instrument.specs.Reported.{lineOf}
+use Rattle.rules.proofs.booklet.Conditions.{answer-refused}
+use Rattle.instrument.specs.Reported.{reportIn, HasNumber, lineOf, RefusedAt}
+use Rattle.instrument.proofs.Weighings.{weighed-cases}
+use Rattle.instrument.proofs.LineReport.{by-line, has-refused, has-off, has-judged}
+use Rattle.instrument.proofs.Replies.{Run, line-report}
 
 -- ---- a byte of a line
 -- Line n of lines that are spelled, i of which stand before it.
@@ -84,3 +89,19 @@ line-placed a k h n o from to g =
     let x = behind-length (b .rows) (b .conditions) in
     let y = behind-at (b .rows) (b .conditions) k (length (b .rows) + k) refl in
     rw (a .2) at (at-byte (linesOf b) (Lines-booklet b (framed w)) (w .long) (suc (length (b .rows) + k)) n (lineOf b k) o (omega arith) (omega arith) from to (rw y g))
+
+some-bytes : (l : List ℕ) → getD l 0 0 ≡ conditionTag → 1 ≤ length l
+some-bytes [] e = absurd (omega arith)
+some-bytes (x ∷ l) e = omega arith
+
+pub placed-report : {t before : List ℕ} {n : ℕ} {after : List ℕ} → Run t before n after → (a : AllowedWhole mostCharacters t) (k : ℕ) → k < length (a .0 .conditions) → HasNumber 0 (reportIn k after) ⊎ RefusedAt t (a .0) k (reportIn k after)
+placed-report run a k h =
+    let q = line-report run a k h in
+    let g = some-bytes (lineAt (a .0) k) (q .tag) in
+    by-line q
+    (λ m o b i e.
+    inr (record { number = m; line = lineOf (a .0) k; offset = o; from2to8 = omega arith; reported = has-refused q (answer-refused _ _ _ _ e) .1; placed = line-placed a k h m o (b .0) (b .1) (omega arith); own = λ _. refl }))
+    (λ c. weighed-cases (readingAt (a .0) (c .0))
+    (λ _ w. inr (record { number = 7; line = 0; offset = 0; from2to8 = omega arith; reported = has-off q c w .1; placed = unweighed (omega arith) (omega arith); own = λ z. absurd (omega arith) }))
+    (λ _ w. inr (record { number = 8; line = 0; offset = 0; from2to8 = omega arith; reported = has-off q c w .1; placed = unweighed (omega arith) (omega arith); own = λ z. absurd (omega arith) }))
+    (λ _ w. inl (has-judged q c w .0)))

@@ -9,6 +9,7 @@ use Rattle.rules.specs.Layout.{mostCharacters}
 use Rattle.rules.specs.Outcome.{refused}
 use Rattle.rules.specs.Report.{noJudgement, report, reportLength}
 use Rattle.rules.specs.Columns.{characters}
+use Rattle.rules.specs.Places.{Placed}
 use Rattle.rules.specs.Booklet.{Booklet, readWhole}
 use Rattle.rules.specs.Apart.{AllowedWhole}
 use Rattle.rules.specs.Answer.{reportOf, answers, answer, firstNumber}
@@ -36,6 +37,16 @@ lineOf b k = 2 + length (b .rows) + k
 pub record SameButLine (r r′ : List ℕ) : Type 0 where
   pub front : take 8 r ≡ take 8 r′
   pub behind : drop 12 r ≡ drop 12 r′
+
+-- A report of condition k is that of a refusal, with a number from 2 to 8, and its place lies within the text as document 01 has it; for 2 to 6 it is the condition's own line.
+pub record RefusedAt (text : List ℕ) (b : Booklet) (k : ℕ) (r : List ℕ) : Type 0 where
+  pub number : ℕ
+  pub line : ℕ
+  pub offset : ℕ
+  pub from2to8 : (2 ≤ number) × (number ≤ 8)
+  pub reported : r ≡ report number line offset noJudgement
+  pub placed : Placed text number line offset
+  pub own : number ≤ 6 → line ≡ lineOf b k
 
 -- ---- what is left in the buffer, with the number n
 -- The text is refused for the whole, with this number from 1 to 6 and at this line: that is in the one report, and every byte beyond it is as it was.

@@ -1,0 +1,205 @@
+-- What is promised of the instrument, to be read without the proofs: each promise is one theorem with a sentence above it, and its proof stands elsewhere.
+-- All are stated of `judge` through its contract, which `judge` is proved to meet (proofs/judge). Their words are defined in the rules' specs/: Apart (which texts are allowed as a whole, which condition lines are, and what each says), Booklet and Answer (the order of checks, and what is answered), Report and Columns (a report's 209 characters, and where each number stands among them), Places (where a refusal may stand), Leaves and Loading (sums, masses and KG), Cargo and Timber (a C3 made a C5, and the slots of the timber set); and in specs/: Reported (where report k stands, and what is left in the buffer), Faults (1 and 2), Outside (7 and 8) and OneTag (two condition lines that differ in one tag alone).
+-- Reports, conditions and figures are counted from 0, verdicts from 1, lines of a text from 1.
+use mathlib.Core.Path.{_≡_, refl, ap, sym, _∙_}
+use mathlib.Core.Logic.{_↔_, _≢_, _⊎_}
+use mathlib.Core.List.{List, [], _∷_}
+use Prim.Native.Nat.{ℕ, _+_, _*_, _≤_, _<_}
+use native.Mathlib.Omega.{arith}
+use lib.IntN.{pos}
+use lib.ListN.{length, drop, getD}
+use denote.Ref.{RefT, now}
+use Rattle.rules.specs.Rounding.{ceil}
+use Rattle.rules.specs.Numbers.{Bytes, digits, twos}
+use Rattle.rules.specs.Text.{hex}
+use Rattle.rules.specs.Blocks.{conditionTag, timber, Tank}
+use Rattle.rules.specs.Layout.{mostCharacters}
+use Rattle.rules.specs.Outcome.{refused, got}
+use Rattle.rules.specs.Loading.{mass, moment, freeSurface, weighed}
+use Rattle.rules.specs.Leaves.{sumLeaves, SameSums}
+use Rattle.rules.specs.Cargo.{MadeCargo}
+use Rattle.rules.specs.Timber.{UnusedSlot, EasedSlot}
+use Rattle.rules.specs.Curve.{loaded, y}
+use Rattle.rules.specs.Criteria.{angleOfGreatest}
+use Rattle.rules.specs.Report.{judgement, noJudgement, report, reportLength}
+use Rattle.rules.specs.Columns.{figureIn, verdictIn}
+use Rattle.rules.specs.Places.{Placed}
+use Rattle.rules.specs.Booklet.{readWhole}
+use Rattle.rules.specs.Apart.{spellBooklet, AllowedWhole, AllowedLine, lineAt, readingAt, alone, respelt}
+use Rattle.rules.specs.Answer.{answered, numberOf, reportOf, inLine, number, bytesSent, written, limited}
+use Rattle.rules.specs.Answer as answers
+use Rattle.rules.proofs.booklet.Room as rooms
+use Rattle.rules.proofs.Booklets as booklets
+use Rattle.rules.proofs.bench.Bench.{P1, P1-output}
+use Rattle.rules.proofs.bench.Regrouped.{regrouped, asOne, asGroup, reads-as, same-sums, two-texts}
+use Rattle.instrument.specs.Reported.{reportIn, numberIn, HasNumber, RefusedLine, lineOf, SameButLine, RefusedAt, RefusedWhole, EachAnswered}
+use Rattle.instrument.specs.Faults.{NoLineAt, WholeOverrunAt, LineOverrunAt}
+use Rattle.instrument.specs.Outside.{Outside, TooHigh, Neither}
+use Rattle.instrument.specs.OneTag.{OtherTagIn}
+use Rattle.instrument.proofs.judge.Reads as judge
+use Rattle.instrument.proofs.judge_within.Reads as within
+use Rattle.instrument.proofs.room.Reads as asks
+use Rattle.instrument.proofs.Replies as replies
+use Rattle.instrument.proofs.FirstReport.{first-sent}
+use Rattle.instrument.proofs.Placed.{whole-placed, placed-report}
+use Rattle.instrument.proofs.Faults as faults
+use Rattle.instrument.proofs.LineReport as lines
+use Rattle.instrument.proofs.LineFigures.{figures-of-leaves}
+use Rattle.instrument.proofs.EitherSet as sets
+use Rattle.instrument.proofs.TwoLines.{by-sums}
+use Rattle.instrument.proofs.Apart as apart
+use Rattle.instrument.proofs.OneTag as tags
+use Rattle.instrument.proofs.OfOne as ones
+use Rattle.instrument.proofs.Within as limits
+
+-- One run of `judge` as its contract admits it: lent `text` and the buffer `before`, it sends back `n` and leaves the buffer `after`.
+-- (Post is what rattle makes of the contract itself; a: the arguments, s: the arguments at the end.)
+abbrev pub Judges : List ℕ → List ℕ → ℕ → List ℕ → Type 0
+Judges text before n after = (κs : _) × (a : _) × (s : _) × judge.Post κs a n s × (now (a .0) ≡ text) × (now (a .1 .0) ≡ before) × (now (s .1 .0) ≡ after)
+
+-- A slice that is lent, at some place in memory.
+abbrev lent : List ℕ → RefT (List ℕ)
+lent s = record { ptr = (0, 0); name = 0; now = s }
+
+-- That is the two equations of the contract, no more and no less: the number is the rules' and so is the buffer at the end.
+pub contract : (text before : List ℕ) (n : ℕ) (after : List ℕ) → Judges text before n after ↔ ((n ≡ number mostCharacters text before) × (after ≡ written mostCharacters text before))
+contract text before n after = (
+  λ run. rw (← (run .4), ← (run .5), ← (run .6)) (run .3),
+  λ settled. (([], ([], tt)), (lent text, (lent before, tt)), (lent text, (lent after, tt)), settled, refl, refl, refl),
+)
+
+module _ (text before : List ℕ) (n : ℕ) (after : List ℕ) (run : Judges text before n after) where
+  settled : (n ≡ number mostCharacters text before) × (after ≡ written mostCharacters text before)
+  settled = contract text before n after .0 run
+
+  -- ---- every text is answered
+  -- With less room than the text asks for the number is 9 and every byte of the buffer is as it was.
+  pub no-room : length before < answers.room mostCharacters text → (n ≡ 9) × (after ≡ before)
+  no-room short = let g = rooms.without-room mostCharacters text before short in (settled .0 ∙ g .numbered, settled .1 ∙ g .holds)
+
+  -- The number is 9 in no other case.
+  pub nine-iff-no-room : (n ≡ 9) ↔ (length before < answers.room mostCharacters text)
+  nine-iff-no-room = let x = rooms.nine-iff-no-room mostCharacters text before in (λ z. x .0 (sym (settled .0) ∙ z), λ short. no-room short .0)
+
+  module _ (enough : answers.room mostCharacters text ≤ length before) where
+    abbrev ran : replies.Run text before n after
+    ran = record { numbered = settled .0; left = settled .1; enough = enough }
+
+    -- With that room every text is answered: the number is one of 0 to 8, and the text is refused for the whole, in one report, or each of its conditions has a report; every byte beyond is as it was.
+    pub every-text-answered : (n ≤ 8) × (RefusedWhole text before n after ⊎ EachAnswered text before n after)
+    every-text-answered = replies.every ran
+
+    -- It is refused for the whole exactly when it is not allowed as a whole, and its conditions are answered exactly when it is; so never both.
+    pub whole-iff-allowed : (RefusedWhole text before n after ↔ (¬ AllowedWhole mostCharacters text)) × (EachAnswered text before n after ↔ AllowedWhole mostCharacters text)
+    whole-iff-allowed = replies.whole-iff ran
+
+    -- ---- demand 1, for the whole: a refusal says what and where
+    -- A text that is refused for the whole gets that refusal's number, and its one report has the number, the line and the offset, verdicts 3 and figures 0.
+    pub refusal-reported : (m l o : ℕ) → readWhole mostCharacters text ≡ refused m l o → (n ≡ m) × (reportIn 0 after ≡ report m l o noJudgement) × (drop reportLength after ≡ drop reportLength before)
+    refusal-reported = replies.whole-sent ran
+
+    -- The place lies within the text as document 01 has it: for 1 and for 2 to 6 one of the text's own lines, or line 0 where it is over 180,000 characters (1) or empty (5). The offset is 0.
+    pub refusal-placed : (refusal : RefusedWhole text before n after) → Placed text n (refusal .line) 0
+    refusal-placed refusal = whole-placed text .holds n (refusal .line) 0 (refusal .refusal)
+
+    -- The number is 1 exactly when the text is over 180,000 characters or has within them a line that is none; then its one report has line 0, or the first such line.
+    pub one-iff-no-line : ((n ≡ 1) ↔ ((l : ℕ) × NoLineAt text l)) × ((l : ℕ) → NoLineAt text l → reportIn 0 after ≡ report 1 l 0 noJudgement)
+    one-iff-no-line = faults.no-line-sent ran
+
+    -- The text is refused with 2 for the whole, at a line, exactly when it is lines, within 180,000 characters and with at most 24 that begin with A3, in which the ship's frame, a row's or a misplaced one runs past that line; then its one report has the line.
+    pub two-iff-overrun : (l : ℕ) → ((readWhole mostCharacters text ≡ refused 2 l 0) ↔ WholeOverrunAt text l) × (WholeOverrunAt text l → (n ≡ 2) × (reportIn 0 after ≡ report 2 l 0 noJudgement))
+    two-iff-overrun = faults.whole-overrun ran
+
+    -- ---- the conditions of a text that is allowed as a whole
+    module _ (a : AllowedWhole mostCharacters text) where
+      -- The number is 0 exactly when every report has the number 0. Otherwise it is that of a report, and every report before that has the number 0.
+      pub number-is-first : ((n ≡ 0) ↔ ((k : ℕ) → k < length (a .0 .conditions) → HasNumber 0 (reportIn k after)))
+          × (1 ≤ n → (k : ℕ) × (k < length (a .0 .conditions)) × HasNumber n (reportIn k after) × ((i : ℕ) → i < k → HasNumber 0 (reportIn i after)))
+      number-is-first = first-sent ran a
+
+      module _ (k : ℕ) (h : k < length (a .0 .conditions)) where
+        abbrev line : lines.Reports (a .0 .ship) (a .0 .rows) (lineOf (a .0) k) (lineAt (a .0) k) (reportIn k after)
+        line = replies.line-report ran a k h
+
+        -- ---- demand 1, for a condition
+        -- Report k has the number 0, or it is that of a refusal: number, line and offset, verdicts 3 and figures 0. Its place lies within the text as document 01 has it; for 2 to 6 it is a byte of the condition's own line, for 7 and 8 line 0 and offset 0.
+        pub refusal-in-its-line : HasNumber 0 (reportIn k after) ⊎ RefusedAt text (a .0) k (reportIn k after)
+        refusal-in-its-line = placed-report ran a k h
+
+        -- What the line says is refused for its mass or its KG: the report has 7 or 8, line 0 and offset 0, verdicts 3 and figures 0.
+        pub refusal-reported-7-8 : (c : AllowedLine (lineAt (a .0) k)) (m : ℕ) → weighed (readingAt (a .0) (c .0)) ≡ refused m 0 0 → reportIn k after ≡ report m 0 0 noJudgement
+        refusal-reported-7-8 c m w = lines.has-off line c w .1
+
+        -- Report k has the number 2 exactly when in its line, the ship, the rows and this condition alone being read, a block is met that runs past its parent; then the report has that line and the block's offset.
+        pub two-in-line : (HasNumber 2 (reportIn k after) ↔ ((o : ℕ) × LineOverrunAt (a .0) k o)) × ((o : ℕ) → LineOverrunAt (a .0) k o → reportIn k after ≡ report 2 (lineOf (a .0) k) o noJudgement)
+        two-in-line = faults.line-overrun ran a k h
+
+        -- ---- demand 2: the figures are those of the reading
+        -- For a line that is allowed and what it says within the table and the KG, the verdicts and figures reported are those that document 01 gives for the ship, the rows and this condition.
+        pub figures-of-reading : (c : AllowedLine (lineAt (a .0) k)) → weighed (readingAt (a .0) (c .0)) ≡ got tt → reportIn k after ≡ report 0 0 0 (judgement (loaded (readingAt (a .0) (c .0))))
+        figures-of-reading c w = lines.has-judged line c w .1
+
+        -- Each entry is counted once, through to the report's characters: for a condition that is judged, the figure of W is the sum of the masses over the leaves of its one tree,
+        -- and the figure of KG the sum of the moments and free surface moments over them, by that sum of masses, rounded up.
+        pub counted-once : HasNumber 0 (reportIn k after) → (c : AllowedLine (lineAt (a .0) k)) → (figureIn 0 (reportIn k after) ≡ hex (digits 8 (sumLeaves mass (c .0 .load))))
+            × (figureIn 1 (reportIn k after) ≡ hex (digits 8 (ceil (sumLeaves moment (c .0 .load) + sumLeaves freeSurface (c .0 .load)) (sumLeaves mass (c .0 .load)))))
+        counted-once = figures-of-leaves line
+
+        -- A slot of report k reads 4, unused, exactly where the condition is judged in the timber set, its weather a C6, and the slot is 1, 2 or 5. No other slot ever does, and none of a refusal.
+        pub unused-reads-four : (i : ℕ) → 1 ≤ i → i ≤ 8
+            → (verdictIn i (reportIn k after) ≡ hex (4 ∷ [])) ↔ (HasNumber 0 (reportIn k after) × ((c : AllowedLine (lineAt (a .0) k)) × (c .0 .weather .set ≡ timber)) × UnusedSlot i)
+        unused-reads-four = sets.unused-sent line
+
+        -- Where a condition with a C6 is judged, slot 4's figure is the greatest lever of the whole curve: the lever at the angle that slot 5's figure gives.
+        pub lever-at-fifth : HasNumber 0 (reportIn k after) → (c : AllowedLine (lineAt (a .0) k)) → c .0 .weather .set ≡ timber
+            → (figureIn 6 (reportIn k after) ≡ hex (digits 8 (twos (y (loaded (readingAt (a .0) (c .0))) (pos (angleOfGreatest (loaded (readingAt (a .0) (c .0)))))))))
+            × (figureIn 7 (reportIn k after) ≡ hex (digits 8 (angleOfGreatest (loaded (readingAt (a .0) (c .0))))))
+        lever-at-fifth = sets.lever-sent line
+
+        -- ---- demand 3: which conditions are judged
+        -- Report k has a number from 2 to 6 exactly when its line is not allowed, and none of them exactly when it is.
+        pub line-iff-allowed : (RefusedLine (reportIn k after) ↔ (¬ AllowedLine (lineAt (a .0) k))) × ((¬ RefusedLine (reportIn k after)) ↔ AllowedLine (lineAt (a .0) k))
+        line-iff-allowed = lines.refused-iff line
+
+        -- It has 7 exactly when the line is allowed and its total mass is below the table's first row or above its last.
+        pub seven-iff-outside : HasNumber 7 (reportIn k after) ↔ ((c : AllowedLine (lineAt (a .0) k)) × Outside (readingAt (a .0) (c .0)))
+        seven-iff-outside = lines.number-7 line
+
+        -- It has 8 exactly when the line is allowed, its mass inside the table, and the corrected KG above 60,000.
+        pub eight-iff-too-high : HasNumber 8 (reportIn k after) ↔ ((c : AllowedLine (lineAt (a .0) k)) × TooHigh (readingAt (a .0) (c .0)))
+        eight-iff-too-high = lines.number-8 line
+
+        -- It has 0, and the condition is judged, exactly when the line is allowed and neither holds.
+        pub judged-iff-neither : HasNumber 0 (reportIn k after) ↔ ((c : AllowedLine (lineAt (a .0) k)) × Neither (readingAt (a .0) (c .0)))
+        judged-iff-neither = lines.number-0 line
+
+        -- ---- each condition for itself
+        -- Report k and the one report of the text with that condition alone are the same but for characters 9 to 12, which name the line; that text's number is report k's; and report k is the answer to that text with the line number of the long one.
+        pub each-as-alone : (before′ : List ℕ) (n′ : ℕ) (after′ : List ℕ) → Judges (spellBooklet (alone (a .0) (lineAt (a .0) k))) before′ n′ after′ → reportLength ≤ length before′
+            → SameButLine (reportIn k after) (reportIn 0 after′) × HasNumber n′ (reportIn k after) × (reportIn k after ≡ reportOf (inLine (lineOf (a .0) k) (answered (spellBooklet (alone (a .0) (lineAt (a .0) k))))))
+        each-as-alone before′ n′ after′ run′ room =
+            let q = contract _ before′ n′ after′ .0 run′ in
+            apart.sent-alone ran a k h (record { numbered = q .0; left = q .1; enough = omega (arith, apart.room-alone ran a k h) })
+
+        -- A fault in a condition line spoils its own report only: whatever begins with A3 may stand in line k instead, within 180,000 characters, and every other report is as it was.
+        pub spoils-its-own : (l : List ℕ) → getD l 0 0 ≡ conditionTag → Bytes l → length (spellBooklet (respelt (a .0) k l)) ≤ mostCharacters
+            → (before′ : List ℕ) (n′ : ℕ) (after′ : List ℕ) → Judges (spellBooklet (respelt (a .0) k l)) before′ n′ after′ → reportLength * length (a .0 .conditions) ≤ length before′
+            → (i : ℕ) → i ≢ k → i < length (a .0 .conditions) → reportIn i after ≡ reportIn i after′
+        spoils-its-own l tag B m before′ n′ after′ run′ room =
+            let q = contract _ before′ n′ after′ .0 run′ in
+            apart.sent-others ran a k h l tag B m (record { numbered = q .0; left = q .1; enough = omega (arith, apart.room-other ran a k h l tag B m) })
+
+-- ---- one answer
+-- Any two runs over the same text and the same buffer send back the same number and leave the same buffer.
+pub one-answer : (text before : List ℕ) (n n′ : ℕ) (after after′ : List ℕ) → Judges text before n after → Judges text before n′ after′ → (n ≡ n′) × (after ≡ after′)
+one-answer text before n n′ after after′ run run′ =
+    let p = contract text before n after .0 run in
+    let q = contract text before n′ after′ .0 run′ in
+    (p .0 ∙ sym (q .0), p .1 ∙ sym (q .1))
+
+-- A text that is allowed as a whole says one booklet only, and an allowed line one condition.
+pub one-booklet : (text : List ℕ) (a a′ : AllowedWhole mostCharacters text) → a .0 ≡ a′ .0
+one-booklet = booklets.one-booklet mostCharacters
+
+pub one-condition : (l : List ℕ) (c c′ : AllowedLine l) → c .0 ≡ c′ .0
+one-condition = booklets.one-condition
