@@ -13,6 +13,7 @@ pub mod TwoLines
 pub mod EitherSet
 pub mod Within
 pub mod OfOne
+pub mod BenchSheet
 pub mod OneTag
 pub mod Apart
 pub mod Promises

@@ -5,7 +5,7 @@ use mathlib.Core.List.{List, [], _∷_}
 use Prim.Native.Nat.{ℕ, _*_, _≤_, _<_}
 use native.Mathlib.Omega.{arith}
 use lib.Dec.{eqb}
-use lib.ListN.{length, getD}
+use lib.ListN.{length, drop, getD}
 use borrow.Author.Tests.{eqb-true}
 use Rattle.rules.specs.Numbers.{Bytes}
 use Rattle.rules.specs.Text.{text, Lines}
@@ -23,7 +23,7 @@ use Rattle.rules.proofs.walk.WholeText as texts
 use Rattle.rules.proofs.booklet.Room.{room-read}
 use Rattle.rules.proofs.booklet.OfOne.{of-one}
 use Rattle.instrument.specs.Reported.{reportIn}
-use Rattle.instrument.proofs.Replies.{read-back, allowed, Run, numbered-first, report-at}
+use Rattle.instrument.proofs.Replies.{read-back, allowed, Run, numbered-first, report-at, beyond-at}
 
 -- ---- its answer
 first-alone : (a : Ans Judgement) → firstNumber (a ∷ []) ≡ numberOf a
@@ -49,6 +49,9 @@ module _ {t : List ℕ} (a : AllowedWhole mostCharacters t) (one : length (a .0 
     numbered-first run a ∙ ap firstNumber answers-one ∙ first-alone (answered t),
     report-at run a 0 (omega arith) ∙ ap reportOf answer-one,
   )
+
+  pub beyond-one : {before : List ℕ} {n : ℕ} {after : List ℕ} → Run t before n after → drop reportLength after ≡ drop reportLength before
+  beyond-one run = rw one at (beyond-at run a)
 
 -- Whether what is read is a booklet of one.
 abbrev pub isOne : Ans Booklet → Bool

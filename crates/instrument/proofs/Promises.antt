@@ -2,6 +2,7 @@
 -- All are stated of `judge` through its contract, which `judge` is proved to meet (proofs/judge). Their words are defined in the rules' specs/: Apart (which texts are allowed as a whole, which condition lines are, and what each says), Booklet and Answer (the order of checks, and what is answered), Report and Columns (a report's 209 characters, and where each number stands among them), Places (where a refusal may stand), Leaves and Loading (sums, masses and KG), Cargo and Timber (a C3 made a C5, and the slots of the timber set); and in specs/: Reported (where report k stands, and what is left in the buffer), Faults (1 and 2), Outside (7 and 8) and OneTag (two condition lines that differ in one tag alone).
 -- Reports, conditions and figures are counted from 0, verdicts from 1, lines of a text from 1.
 use mathlib.Core.Path.{_≡_, refl, ap, sym, _∙_}
+use mathlib.Core.Bool.{true}
 use mathlib.Core.Logic.{_↔_, _≢_, _⊎_}
 use mathlib.Core.List.{List, [], _∷_}
 use Prim.Native.Nat.{ℕ, _+_, _*_, _≤_, _<_}
@@ -30,7 +31,10 @@ use Rattle.rules.specs.Answer.{answered, numberOf, reportOf, inLine, number, by
 use Rattle.rules.specs.Answer as answers
 use Rattle.rules.proofs.booklet.Room as rooms
 use Rattle.rules.proofs.Booklets as booklets
-use Rattle.rules.proofs.bench.Bench.{P1, P1-output}
+use Rattle.rules.proofs.bench.Cases.{Case, judges, refuses, gives}
+use Rattle.rules.proofs.bench.Bench.{P1, P1-output, bench, bench-holds}
+use Rattle.rules.proofs.bench.CargoTank.{tanker, cargo-output, planner-holds}
+use Rattle.rules.proofs.bench.TimberDeck.{tender, tender-output, tender-timber-output, coaster, coaster-output, coaster-timber-output, timbers-hold}
 use Rattle.rules.proofs.bench.Regrouped.{regrouped, asOne, asGroup, reads-as, same-sums, two-texts}
 use Rattle.instrument.specs.Reported.{reportIn, numberIn, HasNumber, RefusedLine, lineOf, SameButLine, RefusedAt, RefusedWhole, EachAnswered}
 use Rattle.instrument.specs.Faults.{NoLineAt, WholeOverrunAt, LineOverrunAt}
@@ -50,6 +54,7 @@ use Rattle.instrument.proofs.TwoLines.{by-sums}
 use Rattle.instrument.proofs.Apart as apart
 use Rattle.instrument.proofs.OneTag as tags
 use Rattle.instrument.proofs.OfOne as ones
+use Rattle.instrument.proofs.BenchSheet as sheet
 use Rattle.instrument.proofs.Within as limits
 
 -- One run of `judge` as its contract admits it: lent `text` and the buffer `before`, it sends back `n` and leaves the buffer `after`.
@@ -203,3 +208,155 @@ one-booklet = booklets.one-booklet mostCharacters
 
 pub one-condition : (l : List ℕ) (c c′ : AllowedLine l) → c .0 ≡ c′ .0
 one-condition = booklets.one-condition
+
+-- ---- the sums settle the report
+-- Two conditions, of one text or of two, each with room, that say one ship, table and weather, and whose entries have the same sum of masses and the same sum of moments with free surface moments, get the same report, character by character:
+-- what is judged is that, and nothing else of the entries, of how they are grouped, of the text, of the condition's place in it or of the buffer.
+pub reading-settles : (text text′ before before′ : List ℕ) (n n′ : ℕ) (after after′ : List ℕ) → Judges text before n after → Judges text′ before′ n′ after′
+    → answers.room mostCharacters text ≤ length before → answers.room mostCharacters text′ ≤ length before′
+    → (a : AllowedWhole mostCharacters text) (a′ : AllowedWhole mostCharacters text′) (k k′ : ℕ) → k < length (a .0 .conditions) → k′ < length (a′ .0 .conditions)
+    → (c : AllowedLine (lineAt (a .0) k)) (c′ : AllowedLine (lineAt (a′ .0) k′)) → SameSums (readingAt (a .0) (c .0)) (readingAt (a′ .0) (c′ .0)) → reportIn k after ≡ reportIn k′ after′
+reading-settles text text′ before before′ n n′ after after′ run run′ enough enough′ a a′ k k′ h h′ c c′ same =
+    by-sums (line text before n after run enough a k h) (line text′ before′ n′ after′ run′ enough′ a′ k′ h′) c c′ same
+
+-- Such texts need have nothing else in common: P1, whose load is one item, and a text whose load is a group of another item and a tank.
+pub two-such-texts : (a : AllowedWhole mostCharacters P1) × (a′ : AllowedWhole mostCharacters regrouped) × (c : AllowedLine (lineAt (a .0) 0)) × (c′ : AllowedLine (lineAt (a′ .0) 0))
+    × SameSums (readingAt (a .0) (c .0)) (readingAt (a′ .0) (c′ .0)) × (P1 ≢ regrouped)
+two-such-texts =
+    let x = ones.of-reading P1 asOne (reads-as .0) in
+    let x′ = ones.of-reading regrouped asGroup (reads-as .1) in
+    (x .0, x′ .0, x .1, x′ .1, rw (x .2, x′ .2) same-sums, two-texts)
+
+-- ---- a condition line with one tag made another
+-- Two texts that are allowed as a whole, each with room, with one ship and the same rows; condition k of the first and k′ of the second.
+module _ (text text′ before before′ : List ℕ) (n n′ : ℕ) (after after′ : List ℕ) (run : Judges text before n after) (run′ : Judges text′ before′ n′ after′)
+    (enough : answers.room mostCharacters text ≤ length before) (enough′ : answers.room mostCharacters text′ ≤ length before′)
+    (a : AllowedWhole mostCharacters text) (a′ : AllowedWhole mostCharacters text′) (k k′ : ℕ) where
+  abbrev here : replies.Run text before n after
+  here = ran text before n after run enough
+
+  abbrev there : replies.Run text′ before′ n′ after′
+  there = ran text′ before′ n′ after′ run′ enough′
+
+  -- ---- cargo tanks
+  -- The two lines differ in one tag alone: a block that begins with C3 in the first, well or ill, begins with C5 in the second.
+  module _ (differ : OtherTagIn 0xC3 0xC5 (a .0) k (a′ .0) k′) where
+    -- A C5 is tested as a C3: where either has a number from 2 to 6, both reports are the same but for the line that they name, and so have the same number and offset.
+    pub tested-as-tank : RefusedLine (reportIn k after) ⊎ RefusedLine (reportIn k′ after′) → SameButLine (reportIn k after) (reportIn k′ after′)
+    tested-as-tank = tags.tank-refused here there a a′ k k′ differ
+
+    -- Otherwise that block is a tank t of the first line, and the second says the same with t made a cargo tank.
+    -- Filled below 98 %, the two get the same report. From 98 % on the C5 is not forgiven: where the second is judged, its figure of W is of the first one's masses, and its figure of KG of the first one's moments and free surface moments with the full moment of t besides.
+    pub cargo-never-forgiven : (c : AllowedLine (lineAt (a .0) k)) → (t : Tank) × (c′ : AllowedLine (lineAt (a′ .0) k′)) × (c .0 .weather ≡ c′ .0 .weather) × MadeCargo t (c .0 .load) (c′ .0 .load)
+        × (t .fill < 980 → reportIn k after ≡ reportIn k′ after′)
+        × (980 ≤ t .fill → HasNumber 0 (reportIn k′ after′) → (figureIn 0 (reportIn k′ after′) ≡ hex (digits 8 (sumLeaves mass (c .0 .load))))
+        × (figureIn 1 (reportIn k′ after′) ≡ hex (digits 8 (ceil (sumLeaves moment (c .0 .load) + sumLeaves freeSurface (c .0 .load) + 1000 * t .density * t .inertia) (sumLeaves mass (c .0 .load))))))
+    cargo-never-forgiven = tags.tank-read here there a a′ k k′ differ
+
+  -- ---- timber on deck
+  -- The two lines differ in one tag alone: a block that begins with C1 in the first, well or ill, begins with C6 in the second.
+  module _ (differ : OtherTagIn 0xC1 0xC6 (a .0) k (a′ .0) k′) where
+    -- A C6 is tested as a C1: both reports have the same number, and where it is not 0 they are the same but for the line that they name, and so have the same offset.
+    pub tested-as-weather : (numberIn (reportIn k after) ≡ numberIn (reportIn k′ after′)) × ((¬ HasNumber 0 (reportIn k after)) → SameButLine (reportIn k after) (reportIn k′ after′))
+    tested-as-weather = tags.weather-number here there a a′ k k′ differ
+
+    -- Where they are judged, the first by the Code's set and the second by timber's, the eleven figures are the same but for slot 4's (the seventh), and so is verdict 8.
+    pub figures-of-either-set : HasNumber 0 (reportIn k after) → ((i : ℕ) → i < 11 → i ≢ 6 → figureIn i (reportIn k after) ≡ figureIn i (reportIn k′ after′)) × (verdictIn 8 (reportIn k after) ≡ verdictIn 8 (reportIn k′ after′))
+    figures-of-either-set = tags.weather-figures here there a a′ k k′ differ
+
+    -- And of slots 3, 6 and 7 each that reads pass (1) by the Code reads pass as timber.
+    pub code-passes-as-timber : HasNumber 0 (reportIn k after) → (i : ℕ) → EasedSlot i → verdictIn i (reportIn k after) ≡ hex (1 ∷ []) → verdictIn i (reportIn k′ after′) ≡ hex (1 ∷ [])
+    code-passes-as-timber = tags.weather-eased here there a a′ k k′ differ
+
+-- ---- texts of one condition
+-- A text of one condition is answered as document 01 answers it: its number, its one report, and room for that alone.
+pub of-one-condition : (text before : List ℕ) (n : ℕ) (after : List ℕ) → Judges text before n after → reportLength ≤ length before → (a : AllowedWhole mostCharacters text) → length (a .0 .conditions) ≡ 1
+    → (n ≡ numberOf (answered text)) × (reportIn 0 after ≡ reportOf (answered text)) × (drop reportLength after ≡ drop reportLength before)
+of-one-condition text before n after run room a one =
+    let enough : answers.room mostCharacters text ≤ length before = omega (arith, ones.room-one a one) in
+    let s = ones.sent-one a one (ran text before n after run enough) in
+    (s .0, s .1, ones.beyond-one a one (ran text before n after run enough))
+
+
+-- With room for 209 bytes a text gets this number, and this report at the front of the buffer.
+abbrev pub Sends : List ℕ → ℕ → List ℕ → Type 0
+Sends text m r = (before : List ℕ) (n : ℕ) (after : List ℕ) → Judges text before n after → reportLength ≤ length before → (n ≡ m) × (reportIn 0 after ≡ r)
+
+sends : (text : List ℕ) {m : ℕ} {r : List ℕ} → ones.isOne (readWhole mostCharacters text) ≡ true → numberOf (answered text) ≡ m → reportOf (answered text) ≡ r → Sends text m r
+sends text one e f before n after run room = let q = contract text before n after .0 run in sheet.one-sent text one e f before (q .0) (q .1) room
+
+-- A case of the bench sheet through `judge`. (Those that speak of no text are numbers that come to others.)
+abbrev pub Sent : Case → Type 0
+Sent (judges text r) = Sends text 0 r
+Sent (refuses text m l o r) = Sends text m r
+Sent (gives found due) = found ≡ due
+
+abbrev pub AllSent : List Case → Type 0
+AllSent [] = Unit {0}
+AllSent (c ∷ cs) = Sent c × AllSent cs
+
+-- P1 to P13 of the bench sheet: each text gets its number and its whole report.
+pub bench-sheet : AllSent bench
+bench-sheet =
+    let b = bench-holds in
+    let r = b .1 .1 .1 .1 .1 .1 .1 .1 .1 in (
+      sends P1 (sheet.sheet-one .0) (sheet.judged-0 .0) (b .0),
+      (b .1 .0,
+      (b .1 .1 .0,
+      (b .1 .1 .1 .0,
+      (b .1 .1 .1 .1 .0,
+      (b .1 .1 .1 .1 .1 .0,
+      (b .1 .1 .1 .1 .1 .1 .0,
+      (b .1 .1 .1 .1 .1 .1 .1 .0,
+      (b .1 .1 .1 .1 .1 .1 .1 .1 .0,
+      (sends sheet.P10 (sheet.sheet-one .1) (ap numberOf (r .0 .0)) (r .0 .1),
+      (sends sheet.P11 (sheet.sheet-one .2) (ap numberOf (r .1 .0 .0)) (r .1 .0 .1),
+      (λ before n after run room. let q = contract [] before n after .0 run in sheet.empty-sent (r .1 .1 .0 .0) (r .1 .1 .0 .1) before (q .0) (q .1) room,
+      (sends sheet.P13 (sheet.sheet-one .3) (ap numberOf (r .1 .1 .1 .0 .0)) (r .1 .1 .1 .0 .1), tt)))))))))))),
+    )
+
+-- The planner's tank, filled to 98.5 %, in two texts that differ in the tag alone. As a C3 it is forgiven: KG is 4,000 mm (FA0) and all eight criteria pass. As a C5 it is not: KG is 4,200 mm (1068), and criteria 1 and 3 fail.
+pub planners-tank : Sends (tanker "C3") 0 P1-output × Sends (tanker "C5") 0 cargo-output
+planners-tank = (sends (tanker "C3") (sheet.tankers-one .0) (sheet.judged-0 .1) (planner-holds .0), sends (tanker "C5") (sheet.tankers-one .1) (sheet.judged-0 .2) (planner-holds .1 .0))
+
+-- Neither set asks less than the other. A ship with a greatest lever of 0.2495 m passes all eight by the Code, and as timber fails slot 4. One that floods from 29.9° on, with the deck edge in the water at 0.1°, fails 2, 3, 4 and 7 by the Code and passes all that are used as timber. In each pair of texts the tag alone differs.
+pub neither-set-covers : Sends (tender "C1") 0 tender-output × Sends (tender "C6") 0 tender-timber-output × Sends (coaster "C1") 0 coaster-output × Sends (coaster "C6") 0 coaster-timber-output
+neither-set-covers = (
+  sends (tender "C1") (sheet.timbers-one .0) (sheet.judged-0 .3) (timbers-hold .1 .0),
+  sends (tender "C6") (sheet.timbers-one .1) (sheet.judged-0 .4) (timbers-hold .1 .1 .0),
+  sends (coaster "C1") (sheet.timbers-one .2) (sheet.judged-0 .5) (timbers-hold .1 .1 .1 .0),
+  sends (coaster "C6") (sheet.timbers-one .3) (sheet.judged-0 .6) (timbers-hold .1 .1 .1 .1 .0),
+)
+
+-- ---- how much room
+-- One run of `room` as its contract admits it: lent `text`, it sends back `r`.
+abbrev pub Asks : List ℕ → ℕ → Type 0
+Asks text r = (κs : _) × (a : _) × (s : _) × asks.Post κs a r s × (now (a .0) ≡ text)
+
+told : (text : List ℕ) (r : ℕ) → Asks text r → r ≡ answers.room mostCharacters text
+told text r run = rw (← (run .4)) (run .3)
+
+-- What `room` tells is what `judge` asks for: `judge` gives 9 exactly when its buffer is shorter.
+pub room-tells : (text : List ℕ) (r : ℕ) → Asks text r → (before : List ℕ) (n : ℕ) (after : List ℕ) → Judges text before n after → (n ≡ 9) ↔ (length before < r)
+room-tells text r run before n after run′ = rw (told text r run) (nine-iff-no-room text before n after run′)
+
+-- It is at least 209 and at most 24 times that; and 209 for each condition of a text that is allowed as a whole.
+pub room-is : (text : List ℕ) (r : ℕ) → Asks text r → (reportLength ≤ r) × (r ≤ 24 * reportLength) × ((a : AllowedWhole mostCharacters text) → r ≡ reportLength * length (a .0 .conditions))
+room-is text r run =
+    let b = rooms.room-bounds mostCharacters text in
+    let e = told text r run in
+    (omega arith, omega arith, λ a. e ∙ rooms.room-read mostCharacters text (a .0) (replies.read-back a))
+
+-- ---- a limit of one's own
+-- One run of `judge_within` as its contract admits it: lent `text` and the buffer `before`, with this limit, it sends back the number `n` and the length `bytes`, and leaves the buffer `after`.
+abbrev pub JudgesWithin : List ℕ → ℕ → List ℕ → ℕ → ℕ → List ℕ → Type 0
+JudgesWithin text limit before n bytes after = (κs : _) × (a : _) × (r : _) × (s : _) × within.Post κs a r s
+    × (now (a .0) ≡ text) × (a .1 .0 ≡ limit) × (now (a .1 .1 .0) ≡ before) × (r .number ≡ n) × (r .length ≡ bytes) × (now (s .1 .1 .0) ≡ after)
+
+-- That is the three equations of the contract, no more and no less.
+pub within-contract : (text : List ℕ) (limit : ℕ) (before : List ℕ) (n bytes : ℕ) (after : List ℕ)
+    → JudgesWithin text limit before n bytes after ↔ ((n ≡ number (limited limit) text before) × (bytes ≡ bytesSent (limited limit) text before) × (after ≡ written (limited limit) text before))
+within-contract text limit before n bytes after = (
+  λ run. let p = run .4 in rw (← (run .5), ← (run .6), ← (run .7), ← (run .8), ← (run .9), ← (run .10)) (p .0, p .1 .0, p .1 .1),
+  λ x. (([], ([], tt)), (lent text, (limit, (lent before, tt))), record { number = n; length = bytes }, (lent text, (limit, (lent after, tt))), (x .0, (x .1, x .2)), refl, refl, refl, refl, refl, refl),
+)

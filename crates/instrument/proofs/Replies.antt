@@ -68,10 +68,11 @@ module _ {t before : List ℕ} {n : ℕ} {after : List ℕ} (run : Run t before 
     pub report-at : (k : ℕ) → k < length (a .0 .conditions) → reportIn k after ≡ reportOf (answer (a .0) k)
     report-at k h = ap (reportIn k) (run .left) ∙ report-stands (a .0) mostCharacters t before (read-back a) (run .enough) k h
 
-    pub answered-each : EachAnswered t before n after
-    answered-each =
-        let c = length (a .0 .conditions) in
-        record { allowed = a; numbered = numbered-first; reported = report-at; beyond = ap (drop (reportLength * c)) (run .left) ∙ beyond-kept (a .0) mostCharacters t before (read-back a) (run .enough) }
+    pub beyond-at : drop (reportLength * length (a .0 .conditions)) after ≡ drop (reportLength * length (a .0 .conditions)) before
+    beyond-at = ap (drop (reportLength * length (a .0 .conditions))) (run .left) ∙ beyond-kept (a .0) mostCharacters t before (read-back a) (run .enough)
+
+    answered-each : EachAnswered t before n after
+    answered-each = record { allowed = a; numbered = numbered-first; reported = report-at; beyond = beyond-at }
 
     pub line-report : (k : ℕ) → k < length (a .0 .conditions) → Reports (a .0 .ship) (a .0 .rows) (lineOf (a .0) k) (lineAt (a .0) k) (reportIn k after)
     unfolding BeginA3
