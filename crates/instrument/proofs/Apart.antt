@@ -2,7 +2,7 @@
 use mathlib.Core.Path.{_≡_, refl, ap, sym, _∙_}
 use mathlib.Core.List.{List}
 use mathlib.Core.Logic.{_≢_}
-use Prim.Native.Nat.{ℕ, _+_, _*_, _≤_, _<_}
+use Prim.Native.Nat.{ℕ, _*_, _≤_, _<_}
 use native.Mathlib.Omega.{arith}
 use lib.ListN.{length, getD, length-set}
 use Rattle.rules.specs.Numbers.{digits, Bytes}
@@ -13,7 +13,7 @@ use Rattle.rules.specs.Outcome.{Ans, refused, got}
 use Rattle.rules.specs.Report.{Judgement, reportLength}
 use Rattle.rules.specs.Booklet.{readWhole}
 use Rattle.rules.specs.Apart.{AllowedWhole, spellBooklet, lineAt, alone, respelt}
-use Rattle.rules.specs.Answer.{answered, numberOf, reportOf, answer, inLine, number, written, room}
+use Rattle.rules.specs.Answer.{answered, numberOf, reportOf, answer, inLine, room}
 use Rattle.rules.proofs.booklet.Room.{room-read}
 use Rattle.rules.proofs.booklet.Alone as alones
 use Rattle.instrument.specs.Reported.{reportIn, HasNumber, lineOf, SameButLine}

@@ -1,13 +1,13 @@
 -- The worked texts of one condition through a run: what their reading, their number and their report come to, by computation.
 use mathlib.Core.Path.{_≡_, refl, ap, sym, _∙_}
-use mathlib.Core.Bool.{Bool, true}
-use mathlib.Core.List.{List, [], _∷_}
+use mathlib.Core.Bool.{true}
+use mathlib.Core.List.{List, []}
 use Prim.Native.Nat.{ℕ, _≤_}
 use native.Mathlib.Omega.{arith}
 use lib.ListN.{length}
 use Rattle.rules.specs.Layout.{mostCharacters}
 use Rattle.rules.specs.Outcome.{refused}
-use Rattle.rules.specs.Report.{noJudgement, report, reportLength}
+use Rattle.rules.specs.Report.{report, reportLength}
 use Rattle.rules.specs.Booklet.{readWhole}
 use Rattle.rules.specs.Answer.{answered, numberOf, reportOf, taken, number, written, room}
 use Rattle.rules.proofs.answer.Steps.{report-refused}

@@ -1,5 +1,5 @@
 -- The number sent back for a booklet is that of its first report with another number than 0.
-use mathlib.Core.Path.{_≡_, refl, ap, sym, _∙_}
+use mathlib.Core.Path.{_≡_, refl, sym, _∙_}
 use mathlib.Core.List.{List}
 use mathlib.Core.Logic.{_↔_}
 use Prim.Native.Nat.{ℕ, _+_, _≤_, _<_}
@@ -49,8 +49,8 @@ module _ {t before : List ℕ} {n : ℕ} {after : List ℕ} (run : Run t before 
       let z = zero-iff-all (answers (a .0)) in (
         (λ e k h. zero-iff k h .1 (z .0 (sym f ∙ e) k (omega (arith, as-many))), λ g. f ∙ z .1 (λ k h. zero-iff k (omega (arith, as-many)) .0 (g k (omega (arith, as-many))))),
         λ h.
-        let x = first-of (answers (a .0)) (omega arith) in
-        let c = as-many in
-        let k : x .0 < count = omega (arith, x .1) in
-        (x .0, k, (rw (x .2 ∙ sym f) at (has-own (x .0) k)), λ i g. zero-iff i (omega arith) .1 (x .3 i g)),
+            let x = first-of (answers (a .0)) (omega arith) in
+            let c = as-many in
+            let k : x .0 < count = omega (arith, x .1) in
+            (x .0, k, (rw (x .2 ∙ sym f) at (has-own (x .0) k)), λ i g. zero-iff i (omega arith) .1 (x .3 i g)),
       )

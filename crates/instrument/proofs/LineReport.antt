@@ -11,14 +11,14 @@ use Rattle.rules.specs.Layout.{Condition, Reading}
 use Rattle.rules.specs.Outcome.{Ans, refused, got}
 use Rattle.rules.specs.Loading.{weighed}
 use Rattle.rules.specs.Curve.{loaded}
-use Rattle.rules.specs.Report.{Judgement, judgement, noJudgement, report}
+use Rattle.rules.specs.Report.{judgement, noJudgement, report}
 use Rattle.rules.specs.Booklet.{conditionAt}
 use Rattle.rules.specs.Apart.{AllowedLine}
 use Rattle.rules.specs.Answer.{judged, numberOf, reportOf, answerAt}
 use Rattle.rules.proofs.walk.Outcome.{bind-got}
 use Rattle.rules.proofs.answer.Steps.{judged-refused, judged-weighed, report-refused, report-judged}
 use Rattle.rules.proofs.booklet.Refusals.{conditionAt-refusal}
-use Rattle.rules.proofs.booklet.Conditions.{condition-sound, condition-got, answer-steps, answer-refused, answer-refusal}
+use Rattle.rules.proofs.booklet.Conditions.{condition-sound, condition-got, answer-steps, answer-refused}
 use Rattle.instrument.specs.Outside.{Outside, TooHigh, Neither}
 use Rattle.instrument.specs.Reported.{HasNumber, RefusedLine}
 use Rattle.instrument.proofs.Numbered.{number-reported, number-told}

@@ -13,7 +13,7 @@ use Rattle.rules.specs.Walk.{read}
 use Rattle.rules.specs.Tags.{OtherTag, OtherTagLines, inCondition, afterLine}
 use Rattle.rules.specs.Cargo.{MadeCargo}
 use Rattle.rules.specs.Timber.{conditionBy}
-use Rattle.rules.specs.Booklet.{Booklet, conditionAt}
+use Rattle.rules.specs.Booklet.{conditionAt}
 use Rattle.rules.specs.Apart.{BeginA3, spellBooklet, WholeLimits}
 use Rattle.rules.proofs.walk.Outcome.{bind-inv, bind-last, bind-got, bind-refused}
 use Rattle.rules.proofs.walk.WholeText.{read-lines}

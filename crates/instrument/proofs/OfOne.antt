@@ -2,7 +2,7 @@
 use mathlib.Core.Path.{_≡_, refl, ap, sym, _∙_}
 use mathlib.Core.Bool.{Bool, true, false}
 use mathlib.Core.List.{List, [], _∷_}
-use Prim.Native.Nat.{ℕ, _*_, _≤_, _<_}
+use Prim.Native.Nat.{ℕ, _*_}
 use native.Mathlib.Omega.{arith}
 use lib.Dec.{eqb}
 use lib.ListN.{length, drop, getD}
@@ -17,7 +17,7 @@ use Rattle.rules.specs.Walk.{read}
 use Rattle.rules.specs.Report.{Judgement, reportLength}
 use Rattle.rules.specs.Booklet.{Booklet, readWhole}
 use Rattle.rules.specs.Apart.{BeginA3, spellBooklet, AllowedWhole, AllowedLine, lineAt, readingAt}
-use Rattle.rules.specs.Answer.{answered, numberOf, reportOf, answers, answer, firstNumber, number, written, room}
+use Rattle.rules.specs.Answer.{answered, numberOf, reportOf, answers, answer, firstNumber, room}
 use Rattle.rules.proofs.layout.Lines.{lines-sound}
 use Rattle.rules.proofs.walk.WholeText as texts
 use Rattle.rules.proofs.booklet.Room.{room-read}

@@ -29,6 +29,7 @@ use Rattle.rules.specs.Booklet.{readWhole}
 use Rattle.rules.specs.Apart.{spellBooklet, AllowedWhole, AllowedLine, lineAt, readingAt, alone, respelt}
 use Rattle.rules.specs.Answer.{answered, numberOf, reportOf, inLine, number, bytesSent, written, limited}
 use Rattle.rules.specs.Answer as answers
+use Rattle.rules.proofs.booklet.Sent.{under-one}
 use Rattle.rules.proofs.booklet.Room as rooms
 use Rattle.rules.proofs.Booklets as booklets
 use Rattle.rules.proofs.bench.Cases.{Case, judges, refuses, gives}
@@ -277,7 +278,6 @@ of-one-condition text before n after run room a one =
     let s = ones.sent-one a one (ran text before n after run enough) in
     (s .0, s .1, ones.beyond-one a one (ran text before n after run enough))
 
-
 -- With room for 209 bytes a text gets this number, and this report at the front of the buffer.
 abbrev pub Sends : List ℕ → ℕ → List ℕ → Type 0
 Sends text m r = (before : List ℕ) (n : ℕ) (after : List ℕ) → Judges text before n after → reportLength ≤ length before → (n ≡ m) × (reportIn 0 after ≡ r)
@@ -301,18 +301,40 @@ bench-sheet =
     let b = bench-holds in
     let r = b .1 .1 .1 .1 .1 .1 .1 .1 .1 in (
       sends P1 (sheet.sheet-one .0) (sheet.judged-0 .0) (b .0),
-      (b .1 .0,
-      (b .1 .1 .0,
-      (b .1 .1 .1 .0,
-      (b .1 .1 .1 .1 .0,
-      (b .1 .1 .1 .1 .1 .0,
-      (b .1 .1 .1 .1 .1 .1 .0,
-      (b .1 .1 .1 .1 .1 .1 .1 .0,
-      (b .1 .1 .1 .1 .1 .1 .1 .1 .0,
-      (sends sheet.P10 (sheet.sheet-one .1) (ap numberOf (r .0 .0)) (r .0 .1),
-      (sends sheet.P11 (sheet.sheet-one .2) (ap numberOf (r .1 .0 .0)) (r .1 .0 .1),
-      (λ before n after run room. let q = contract [] before n after .0 run in sheet.empty-sent (r .1 .1 .0 .0) (r .1 .1 .0 .1) before (q .0) (q .1) room,
-      (sends sheet.P13 (sheet.sheet-one .3) (ap numberOf (r .1 .1 .1 .0 .0)) (r .1 .1 .1 .0 .1), tt)))))))))))),
+      (
+        b .1 .0,
+        (
+          b .1 .1 .0,
+          (
+            b .1 .1 .1 .0,
+            (
+              b .1 .1 .1 .1 .0,
+              (
+                b .1 .1 .1 .1 .1 .0,
+                (
+                  b .1 .1 .1 .1 .1 .1 .0,
+                  (
+                    b .1 .1 .1 .1 .1 .1 .1 .0,
+                    (
+                      b .1 .1 .1 .1 .1 .1 .1 .1 .0,
+                      (
+                        sends sheet.P10 (sheet.sheet-one .1) (ap numberOf (r .0 .0)) (r .0 .1),
+                        (
+                          sends sheet.P11 (sheet.sheet-one .2) (ap numberOf (r .1 .0 .0)) (r .1 .0 .1),
+                          (
+                            λ before n after run room. let q = contract [] before n after .0 run in sheet.empty-sent (r .1 .1 .0 .0) (r .1 .1 .0 .1) before (q .0) (q .1) room,
+                            (sends sheet.P13 (sheet.sheet-one .3) (ap numberOf (r .1 .1 .1 .0 .0)) (r .1 .1 .1 .0 .1), tt),
+                          ),
+                        ),
+                      ),
+                    ),
+                  ),
+                ),
+              ),
+            ),
+          ),
+        ),
+      ),
     )
 
 -- The planner's tank, filled to 98.5 %, in two texts that differ in the tag alone. As a C3 it is forgiven: KG is 4,000 mm (FA0) and all eight criteria pass. As a C5 it is not: KG is 4,200 mm (1068), and criteria 1 and 3 fail.
@@ -360,3 +382,34 @@ within-contract text limit before n bytes after = (
   λ run. let p = run .4 in rw (← (run .5), ← (run .6), ← (run .7), ← (run .8), ← (run .9), ← (run .10)) (p .0, p .1 .0, p .1 .1),
   λ x. (([], ([], tt)), (lent text, (limit, (lent before, tt))), record { number = n; length = bytes }, (lent text, (limit, (lent after, tt))), (x .0, (x .1, x .2)), refl, refl, refl, refl, refl, refl),
 )
+
+module _ (text : List ℕ) (limit : ℕ) (before : List ℕ) (n bytes : ℕ) (after : List ℕ) (run : JudgesWithin text limit before n bytes after) where
+  within-settled : (n ≡ number (limited limit) text before) × (bytes ≡ bytesSent (limited limit) text before) × (after ≡ written (limited limit) text before)
+  within-settled = within-contract text limit before n bytes after .0 run
+
+  -- With a limit of 180,000 or more it is `judge`; and so for every text that is no longer than its limit.
+  pub within-as-judge : (mostCharacters ≤ limit → Judges text before n after) × (length text ≤ limit → Judges text before n after)
+  within-as-judge =
+      let q = within-settled in (
+        λ h. let e : limited limit ≡ mostCharacters = omega arith in contract text before n after .1 (rw e at (q .0), rw e at (q .2)),
+        λ h. let w = limits.within-same text before limit h in contract text before n after .1 (q .0 ∙ w .0, q .2 ∙ w .2),
+      )
+
+  -- A text longer than the limit, whatever it holds, is refused with 1 at line 0 and offset 0, where there is room for 209 bytes; with less the number is 9 and every byte of the buffer is as it was.
+  pub within-too-long : limit < length text
+      → (reportLength ≤ length before → (n ≡ 1) × (bytes ≡ reportLength) × (reportIn 0 after ≡ report 1 0 0 noJudgement) × (drop reportLength after ≡ drop reportLength before))
+      × (length before < reportLength → (n ≡ 9) × (bytes ≡ 0) × (after ≡ before))
+  within-too-long h =
+      let q = within-settled in (
+        λ g. let w = limits.too-long text before limit h g in (q .0 ∙ w .0, q .1 ∙ w .1, ap (reportIn 0) (q .2) ∙ w .2, ap (drop reportLength) (q .2) ∙ w .3),
+        λ g. let w = under-one (limited limit) text before g in (q .0 ∙ w .numbered, q .1 ∙ w .long, q .2 ∙ w .holds),
+      )
+
+  -- The length that is sent back is that of the reports: 0 with 9, 209 where a text no longer than the limit is refused for the whole, and 209 for each of its conditions where it is not.
+  pub within-length : length text ≤ limit → (n ≡ 9 → bytes ≡ 0) × (RefusedWhole text before n after → bytes ≡ reportLength) × ((x : EachAnswered text before n after) → bytes ≡ reportLength * length (x .allowed .0 .conditions))
+  within-length h =
+      let q = within-settled in
+      let w = limits.within-same text before limit h in
+      let b = limits.bytes-told text before n after (q .0 ∙ w .0) (q .2 ∙ w .2) in
+      let e = q .1 ∙ w .1 in
+      (λ z. e ∙ b .0 z, λ x. e ∙ b .1 x, λ x. e ∙ b .2 x)

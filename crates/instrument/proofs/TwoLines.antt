@@ -1,8 +1,6 @@
 -- The reports of two condition lines: the same but for the line number where both are refused alike, and the very same where both are read with the same sums.
 use mathlib.Core.Path.{_≡_, refl, ap, ap₂, sym, _∙_}
-use mathlib.Core.Bool.{true, false}
 use mathlib.Core.List.{List}
-use mathlib.Core.Logic.{_⊎_, ⊎-elim}
 use Prim.Native.Nat.{ℕ, _+_, _*_, _≤_, _<_}
 use native.Mathlib.Omega.{arith}
 use lib.ListN.{take, drop}
@@ -20,7 +18,7 @@ use Rattle.rules.specs.Report.{Judgement}
 use Rattle.rules.specs.Columns.{figureIn}
 use Rattle.rules.specs.Booklet.{conditionAt}
 use Rattle.rules.specs.Apart.{AllowedLine}
-use Rattle.rules.specs.Answer.{reportOf, answerAt, inLine}
+use Rattle.rules.specs.Answer.{reportOf, inLine}
 use Rattle.rules.proofs.loading.Sums.{judged-by-sums}
 use Rattle.rules.proofs.loading.Cargo.{sums-below, sums-full}
 use Rattle.rules.proofs.booklet.LineOnly.{in-line-only}
@@ -76,6 +74,11 @@ module _ {s s′ : Ship} {vs vs′ : List Row} {ln ln′ : ℕ} {l l′ r r′ :
     never-forgiven c =
         let m = made (c .0) (line-got ln c) in
         let x = condition-sound ln′ l′ _ (q′ .tag) (q′ .bytes) (m .3) in
-        let c′ : AllowedLine l′ = (record { weather = c .0 .weather; load = m .1 }, x .0, x .1) in
-        (m .0, c′, refl, m .2, λ slack. let y = sums-below (m .2) slack in by-sums c c′ (record { ship = ships; rows = rows; weather = refl; masses = y .0; moments = y .1 }),
-        λ full z. full-figures (m .0) (c .0 .load) (m .1) (m .2) full z c′ refl)
+        let c′ : AllowedLine l′ = (record { weather = c .0 .weather; load = m .1 }, x .0, x .1) in (
+          m .0,
+          c′,
+          refl,
+          m .2,
+          λ slack. let y = sums-below (m .2) slack in by-sums c c′ (record { ship = ships; rows = rows; weather = refl; masses = y .0; moments = y .1 }),
+          λ full z. full-figures (m .0) (c .0 .load) (m .1) (m .2) full z c′ refl,
+        )

@@ -1,27 +1,27 @@
 -- A limit of one's own: a text longer than it is refused with 1, and any other is answered as with the library's limit; and how many bytes are written.
 use mathlib.Core.Path.{_≡_, refl, ap, _∙_, sym}
 use mathlib.Core.List.{List}
-use Prim.Native.Nat.{ℕ, _*_, min, _≤_, _<_}
+use mathlib.Core.Logic.{_≢_}
+use Prim.Native.Nat.{ℕ, _+_, _*_, _≤_, _<_}
 use native.Mathlib.Omega.{arith}
 use native.Mathlib.Decide.{decLe}
 use lib.Dec.{leb}
-use lib.ListN.{length, take, drop}
+use lib.ListN.{length, drop}
 use lib.Seq.{take-at, drop-at}
 use borrow.Author.Tests.{le-leb, lt-leb}
 use Rattle.rules.specs.Layout.{mostCharacters}
-use Rattle.rules.specs.Outcome.{refused, got, test, _>>=_, _>>_}
+use Rattle.rules.specs.Outcome.{refused, test, _>>=_, _>>_}
 use Rattle.rules.specs.Report.{noJudgement, report, reportLength}
-use Rattle.rules.specs.Booklet.{conditionLines, countedLines, bookFrames, readWhole}
-use Rattle.rules.specs.Apart.{AllowedWhole}
+use Rattle.rules.specs.Booklet.{conditionLines, countedLines, bookFrames}
 use Rattle.rules.specs.Answer.{reportOf, taken, numberFor, sent, over, number, bytesSent, written, room, limited}
 use Rattle.rules.proofs.walk.Outcome.{test-got, test-refused}
 use Rattle.rules.proofs.answer.Steps.{report-refused}
 use Rattle.rules.proofs.answer.Length.{refusal-length}
 use Rattle.rules.proofs.booklet.Counted.{countedLines-steps}
 use Rattle.rules.proofs.booklet.Sent.{uncounted}
-use Rattle.rules.proofs.booklet.WholeText.{complete}
 use Rattle.rules.proofs.booklet.Room as rooms
-use Rattle.instrument.specs.Reported.{reportIn}
+use Rattle.instrument.specs.Reported.{reportIn, RefusedWhole, EachAnswered}
+use Rattle.instrument.proofs.Replies.{read-back}
 
 -- ---- a text within the limit
 -- What is taken of a text depends on the limit by its lines alone.
@@ -76,13 +76,24 @@ module _ (t buffer : List ℕ) where
           ap (drop reportLength) (u .holds) ∙ drop-at (reportOf (refused 1 0 0)) (drop reportLength buffer) reportLength L,
         )
 
-  -- ---- how many bytes are written
-  module _ (most : ℕ) where
-    pub bytes-none : length buffer < room most t → bytesSent most t buffer ≡ 0
-    bytes-none h = rooms.without-room most t buffer h .long
-
-    pub bytes-whole : room most t ≤ length buffer → (m l o : ℕ) → readWhole most t ≡ refused m l o → bytesSent most t buffer ≡ reportLength
-    bytes-whole h m l o e = rooms.whole-refused most t buffer h e .long
-
-    pub bytes-each : room most t ≤ length buffer → (a : AllowedWhole most t) → bytesSent most t buffer ≡ reportLength * length (a .0 .conditions)
-    bytes-each h a = rooms.whole-got most t buffer h (a .0) (rw (← (a .2)) (complete most (a .0) (a .1))) .long
+-- ---- how many bytes are written
+-- As many as the reports are, and none with 9.
+pub bytes-told : (t before : List ℕ) (n : ℕ) (after : List ℕ) → n ≡ number mostCharacters t before → after ≡ written mostCharacters t before
+    → (n ≡ 9 → bytesSent mostCharacters t before ≡ 0)
+    × (RefusedWhole t before n after → bytesSent mostCharacters t before ≡ reportLength)
+    × ((x : EachAnswered t before n after) → bytesSent mostCharacters t before ≡ reportLength * length (x .allowed .0 .conditions))
+bytes-told t before n after N W = (
+  λ z. rooms.without-room mostCharacters t before (rooms.nine-iff-no-room mostCharacters t before .0 (sym N ∙ z)) .long,
+  λ x. rooms.whole-refused mostCharacters t before (enough (λ z. omega (arith, x .from1to6))) (x .refusal) .long,
+  λ x.
+      let b = x .allowed .0 in
+      let f = rooms.first-number (b .ship) (b .rows) (b .conditions) (2 + length (b .rows)) in
+      rooms.whole-got mostCharacters t before (enough (λ z. omega (arith, x .numbered))) b (read-back (x .allowed)) .long,
+)
+  where
+    enough : n ≢ 9 → room mostCharacters t ≤ length before
+    enough d = go (decLe (room mostCharacters t) (length before))
+      where
+        go : Dec (room mostCharacters t ≤ length before) → room mostCharacters t ≤ length before
+        go (yes h) = h
+        go (no h) = absurd (d (N ∙ rooms.nine-iff-no-room mostCharacters t before .1 (omega arith)))
