@@ -1,4 +1,6 @@
 pub mod Joined
+pub mod OfLine
+pub mod Booklet
 pub mod Replies
 pub mod EitherSet
 pub mod Promises

@@ -12,6 +12,7 @@ pub mod LineOnly
 pub mod Alone
 pub mod AsFrames
 pub mod OfOne
+pub mod Readings
 pub mod Long
 pub mod PlaceFits
 pub mod InsideParent
