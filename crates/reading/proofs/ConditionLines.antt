@@ -70,6 +70,10 @@ module _ (ln : ℕ) (t : List ℕ) (r : LineRead) (e : r ≡ lineOf t) where
         (p ∙ ap (λ l. conditionRead (conditionAt ln l)) (ap (take n) f ∙ over-held n (decoded t) bytes (omega (arith, long)) (omega arith) ∙ take-all n (decoded t) (omega (arith, long))))
         _ refl
 
+-- The buffer is as long afterwards.
+pub room-kept : (t bytes out : List ℕ) → out ≡ over (decoded t) bytes → length out ≡ length bytes
+room-kept t bytes out e = ap length e ∙ over-length (decoded t) bytes
+
 -- ---- line after line
 -- A text that is lines, and is not empty, begins with one; behind it stand the others.
 module _ (ln : ℕ) (t : List ℕ) (cs : List (List ℕ)) (e : linesFrom ln t ≡ got cs) where
