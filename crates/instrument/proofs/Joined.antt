@@ -78,4 +78,3 @@ module _ (r : Reading) (s : Ship) (x : Condition) (t : Table) (T : Says r s x t)
     pub sent-loaded : (l : plain.Loaded) → loadedOf l ≡ loadedAt (shipOf s) (rowsOf t) (weatherOf (x .weather)) w kg → (j : plain′.Judgement) → j ≡ judgementOf (judgement (loadedOf l))
         → {before after : List ℕ} {n : ℕ} → SentJudged j before n after → Sent (judged r) before n after
     sent-loaded l p j q sends = rw (judged-weighed r (fine .0)) (sends (judgement (loaded r)) (q ∙ ap (λ (c : Loaded). judgementOf (judgement c)) (loaded-of l p)))
-
