@@ -12,7 +12,6 @@ pub mod LineOnly
 pub mod Alone
 pub mod AsFrames
 pub mod OfOne
-pub mod Long
 pub mod PlaceFits
 pub mod InsideParent
 pub mod Overrun
