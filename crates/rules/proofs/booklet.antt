@@ -19,3 +19,5 @@ pub mod OnlyOverrun
 pub mod LineOverrun
 pub mod FirstFault
 pub mod TwentyFifth
+pub mod OtherTag
+pub mod Retagged
