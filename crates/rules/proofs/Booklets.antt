@@ -18,7 +18,7 @@ use Rattle.rules.specs.Places.{FramesFill, ConditionFills, SameBefore, l
 use Rattle.rules.specs.Cargo.{MadeCargo, RetaggedLines, RetaggedLine}
 use Rattle.rules.specs.Timber.{TimberLines, TimberLine, conditionBy}
 use Rattle.rules.specs.Booklet.{conditionLines, Booklet, readWhole, conditionAt}
-use Rattle.rules.specs.Apart.{linesOf, spellBooklet, AllowedWhole, AllowedLine, LinesWithin, lineAt, alone, respelt, MetWhole}
+use Rattle.rules.specs.Apart.{linesOf, spellBooklet, AllowedWhole, AllowedLine, LinesWithin, lineAt, alone, respelt, MetWhole, Misplaced}
 use Rattle.rules.specs.Answer.{reportOf, answered, answerAt, answers, answer, inLine, number, written, room}
 use Rattle.rules.proofs.walk.Retagged.{tanks-alike}
 use Rattle.rules.proofs.walk.Timber.{weathers-alike}
@@ -34,6 +34,7 @@ use Rattle.rules.proofs.booklet.PlaceFits.{whole-fits}
 use Rattle.rules.proofs.booklet.InsideParent.{lines-of-booklet, front-fills, line-fills}
 use Rattle.rules.proofs.booklet.OnlyOverrun.{two-whole}
 use Rattle.rules.proofs.booklet.LineOverrun.{two-line}
+use Rattle.rules.proofs.booklet.Misplaced.{two-misplaced, four-misplaced}
 use Rattle.rules.proofs.booklet.FirstFault.{whole-fault, fault-in-line}
 use Rattle.rules.proofs.booklet.TwentyFifth.{twenty-fifth}
 use Rattle.rules.proofs.booklet.OtherTag.{answers-alike, refused-alike, read-other}
@@ -177,6 +178,11 @@ five-at-25th most front l later B m c a = twenty-fifth most front l later B m c 
 -- the first line; one behind the ship's and some rows' that is no condition line in its place; one behind condition lines that is none. The offset is 0.
 pub two-for-the-whole : (most : ℕ) (t : List ℕ) (ls : List (List ℕ)) → LinesWithin most t ls → (ln o : ℕ) → (readWhole most t ≡ refused 2 ln o) ↔ ((o ≡ 0) × (l : List ℕ) × MetWhole ls ln l × Overruns l)
 two-for-the-whole most t ls C ln o = two-whole most t ls C ln o
+
+-- A misplaced line of such a text is refused for the whole, at its line and offset 0: with 2 where its frame runs past it or it has one or two bytes, else with 4. Misplaced is what begins with another tag than is due there, the first such line:
+-- no A1 in the first line; behind the ship and rows within their limits neither an A2 nor an A3, or an A3 before the second row, or a 41st A2; behind condition lines, whatever these hold, anything that begins with another tag than A3.
+pub misplaced : (most : ℕ) (t : List ℕ) (ls : List (List ℕ)) → LinesWithin most t ls → (ln : ℕ) (l : List ℕ) → Misplaced ls ln l → (Overruns l → readWhole most t ≡ refused 2 ln 0) × (¬ Overruns l → readWhole most t ≡ refused 4 ln 0)
+misplaced most t ls C ln l m = (two-misplaced most t ls C ln l m, four-misplaced most t ls C ln l m)
 
 -- A condition of a text that is read is refused with 2, in its line and at an offset, exactly where in the text with that condition alone a block is met there whose length runs past its parent, or one or two bytes where a block would begin.
 pub two-in-line : (most : ℕ) (t : List ℕ) (b : Booklet) → readWhole most t ≡ got b → (k : ℕ) → k < length (b .conditions) → (o : ℕ)

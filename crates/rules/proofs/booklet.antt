@@ -17,6 +17,7 @@ pub mod InsideParent
 pub mod Overrun
 pub mod OnlyOverrun
 pub mod LineOverrun
+pub mod Misplaced
 pub mod FirstFault
 pub mod TwentyFifth
 pub mod OtherTag
