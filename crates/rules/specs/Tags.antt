@@ -19,4 +19,4 @@ pub data OtherTagLines (a b : ℕ) : List (List ℕ) → List (List ℕ) → Typ
 
 -- And so a condition line of a booklet.
 pub data OtherTagLine (a b : ℕ) : List ℕ → List ℕ → Type 0 where
-  inLine : {body body′ : List ℕ} → length body < 65_536 → OtherTag a b body body′ → OtherTagLine a b (block conditionTag body) (block conditionTag body′)
+  inBody : {body body′ : List ℕ} → length body < 65_536 → OtherTag a b body body′ → OtherTagLine a b (block conditionTag body) (block conditionTag body′)

@@ -13,7 +13,7 @@ use Rattle.rules.specs.Blocks.{block, Ship, Row, row, conditionTag}
 use Rattle.rules.specs.Layout.{Entries, Condition, fewestRows, mostRows, mostBytes, mostConditions}
 use Rattle.rules.specs.Outcome.{refused, got, test, _>>=_, _>>_}
 use Rattle.rules.specs.Walk.{header, inside, conditionIn, shipFrame, rowIn, aRow, aCondition, frameOf, closed}
-use Rattle.rules.specs.Tags.{OtherTagLines, asFrame, inCondition, afterLine, OtherTagLine, inLine}
+use Rattle.rules.specs.Tags.{OtherTagLines, asFrame, inCondition, afterLine, OtherTagLine, inBody}
 use Rattle.rules.specs.Booklet.{isCondition, counted, rowAt, onlyConditions, Behind, behindShip, Booklet, bookFrames, readWhole, conditionAt}
 use Rattle.rules.specs.Apart.{lineAt, respelt}
 use Rattle.rules.specs.Answer.{answerAt}
@@ -33,7 +33,7 @@ module _ {a b : ℕ} {R : Entries → Entries → Type 0} {S : Condition → Con
 
   pub line-alike : {l l′ : List ℕ} → OtherTagLine a b l l′ → (ln : ℕ) → Like S (conditionAt ln l) (conditionAt ln l′)
   unfolding _>>_
-  line-alike (inLine {body} {body′} s m) ln =
+  line-alike (inBody {body} {body′} s m) ln =
       let e = same-length m in
       rw (line-steps ln body s, line-steps ln body′ (omega arith), e) (like-then (test (leb (length body′) mostBytes) 5 ln 0) _ _ (λ u. inside-alike A ln m s))
 
@@ -77,7 +77,7 @@ module _ {a b : ℕ} {R : Entries → Entries → Type 0} {S : Condition → Con
   unfolding block closed
   only-alike (asFrame left later) ln = rw (only-other (a ∷ left) later ln (first .0), only-other (b ∷ left) later ln (second .0)) (like-bind _ _ (head-alike a b ln 0 left) (λ h g e. bothRefused))
   only-alike (inCondition {body} {body′} later s m) ln =
-      rw (only-a3 (block conditionTag body) later ln refl, only-a3 (block conditionTag body′) later ln refl) (like-same (onlyConditions (ln + 1) later) (λ u. (0, _, omega arith, inLine s m, refl)))
+      rw (only-a3 (block conditionTag body) later ln refl, only-a3 (block conditionTag body′) later ln refl) (like-same (onlyConditions (ln + 1) later) (λ u. (0, _, omega arith, inBody s m, refl)))
   only-alike (afterLine line {ls} {ls′} m) ln = go (only-alike m (ln + 1)) (isCondition line) refl
     where
       go : Like (λ u v. Others ls ls′) (onlyConditions (ln + 1) ls) (onlyConditions (ln + 1) ls′) → (c : Bool) → isCondition line ≡ c → Like (λ u v. Others (line ∷ ls) (line ∷ ls′)) (onlyConditions ln (line ∷ ls)) (onlyConditions ln (line ∷ ls′))
@@ -108,7 +108,7 @@ module _ {a b : ℕ} {R : Entries → Entries → Type 0} {S : Condition → Con
       go : (c : Bool) → leb fewestRows k ≡ c → Like Behinds (behindShip (block conditionTag body ∷ later) ln k p) (behindShip (block conditionTag body′ ∷ later) ln k p)
       go true q =
           rw (behind-a3 (block conditionTag body) later ln k p q, behind-a3 (block conditionTag body′) later ln k p q)
-          (like-then (onlyConditions (ln + 1) later) _ _ (λ u. bothGot (refl, (0, _, omega arith, inLine s m, refl))))
+          (like-then (onlyConditions (ln + 1) later) _ _ (λ u. bothGot (refl, (0, _, omega arith, inBody s m, refl))))
       go false q =
           let e = same-length m in
           rw (behind-row (block conditionTag body) later ln k p q, behind-row (block conditionTag body′) later ln k p q, not-yet ln k p body s, not-yet ln k p body′ (omega arith)) (like-never _ _ bothRefused)
