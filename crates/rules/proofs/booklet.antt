@@ -13,7 +13,6 @@ pub mod Alone
 pub mod AsFrames
 pub mod OfOne
 pub mod Readings
-pub mod Long
 pub mod PlaceFits
 pub mod InsideParent
 pub mod Overrun
