@@ -1,9 +1,12 @@
 -- What the reading of a whole text says of the room that it asks for, and of what is sent back.
 use mathlib.Core.Path.{_≡_, refl, ap, sym, _∙_}
+use mathlib.Core.Bool.{Bool, true, false}
 use mathlib.Core.List.{List, _++_, map}
-use Prim.Native.Nat.{ℕ, _*_, max, _≤_, _<_}
+use Prim.Native.Nat.{ℕ, _+_, _*_, max, _≤_, _<_}
 use native.Mathlib.Omega.{arith}
+use lib.Dec.{ltb}
 use lib.ListN.{length, drop}
+use borrow.Author.Tests.{ltb-true, ltb-false}
 use Rattle.rules.specs.Layout.{mostCharacters, mostConditions}
 use Rattle.rules.specs.Outcome.{Ans, refused, got, _>>=_}
 use Rattle.rules.specs.Booklet.{conditionLines, countedLines, Booklet, bookFrames, readWhole}
@@ -12,7 +15,9 @@ use Rattle.rules.specs.Answer.{reportOf, answers, firstNumber, number, bytesSen
 use Rattle.rules.proofs.walk.Outcome.{bind-got, bind-refused}
 use Rattle.rules.proofs.booklet.Counted.{lines-lead}
 use Rattle.rules.proofs.booklet.Frames.{frames-sound}
+use Rattle.rules.proofs.booklet.Refusals.{readWhole-refusal}
 use Rattle.rules.proofs.booklet.Sent.{Gives}
+use Rattle.rules.proofs.booklet.Room.{room-bounds, room-read, whole-refused, whole-got, without-room, first-number}
 use Rattle.rules.proofs.booklet.WholeText.{countedLines-sound, sound, complete}
 use Rattle.book.specs.Book.{refusal, plainShip, Refuses}
 use Rattle.book.specs.declared.Refusal.{Refusal}
@@ -145,3 +150,20 @@ sent-whole s g = rw (s .numbered, s .reported) g
 pub sent-each : (b : Booklet) {m : ℕ} {t before after : List ℕ} {n k : ℕ} → (n ≡ firstNumber (answers b)) × (after ≡ concat (map reportOf (answers b)) ++ drop (reportLength * length (b .conditions)) before) → k ≡ length (b .conditions)
     → Gives m t before (firstNumber (answers b)) (reportLength * length (b .conditions)) (concat (map reportOf (answers b)) ++ drop (reportLength * length (b .conditions)) before) → Gives m t before n (reportLength * k) after
 sent-each b s e g = rw (s .0, s .1, e) g
+
+-- Whatever the text and the buffer, the number is 9 at most, and no more bytes are sent than the buffer has.
+pub within-buffer : (most : ℕ) (t buffer : List ℕ) → (number most t buffer ≤ 9) × (bytesSent most t buffer ≤ length buffer)
+within-buffer most t buffer = go (ltb (length buffer) (room most t)) refl
+  where
+    answered : room most t ≤ length buffer → (a : Ans Booklet) → readWhole most t ≡ a → (number most t buffer ≤ 9) × (bytesSent most t buffer ≤ length buffer)
+    answered h (refused n l o) e =
+        let g = whole-refused most t buffer h e in
+        let r = readWhole-refusal most t .holds n l o e in
+        omega (arith, g .numbered, g .long, room-bounds most t)
+    answered h (got b) e =
+        let g = whole-got most t buffer h b e in
+        omega (arith, g .numbered, g .long, room-read most t b e, first-number (b .ship) (b .rows) (b .conditions) (2 + length (b .rows)))
+
+    go : (c : Bool) → ltb (length buffer) (room most t) ≡ c → (number most t buffer ≤ 9) × (bytesSent most t buffer ≤ length buffer)
+    go true p = let g = without-room most t buffer (ltb-true _ _ p) in omega (arith, g .numbered, g .long)
+    go false p = answered (ltb-false _ _ p) (readWhole most t) refl
