@@ -1,26 +1,35 @@
 // For each text of the stream on standard input the number that is sent back, in a line of its own, and the report lines, in order.
+ghost use Prim.Native.Nat.{_≤_};
+ghost use lib.ListN.{length};
 use libc::STDOUT_FILENO;
-use stream::Text;
+use numbers::least;
 
-fn print_reports(text: &[u8], limit: usize, room: usize, report: &mut [u8]) -> bool {
-    let most = if room < report.len() {
-        room
-    } else {
-        report.len()
-    };
-    let sent = instrument::judge_within(text, limit, &mut report[..most]);
-    let number = [48 + sent.number, b'\n'];
-    if !io::write_all(STDOUT_FILENO, &number) {
+// The number in a line of its own, and so many bytes of the buffer.
+fn print_reply(number: u8, written: usize, report: &[u8]) -> bool
+    requires { ⌜ (number ≤ 9) × (written ≤ length (now report)) ⌝ }
+{
+    let line = [48 + number, b'\n'];
+    if !io::write_all(STDOUT_FILENO, &line) {
         return false;
     }
-    io::write_all(STDOUT_FILENO, &report[..sent.length])
+    io::write_all(STDOUT_FILENO, &report[..written])
+}
+
+// One text within its limit, in as much of the buffer as its room.
+fn print_reports(text: &[u8], limit: usize, report: &mut [u8]) -> bool {
+    let reply = instrument::judge_within(text, limit, report);
+    print_reply(reply.number, reply.length, report)
 }
 
 // One text, and whether to go on.
 fn next_report(buf: &mut [u8], report: &mut [u8]) -> bool {
     let t = stream::next_text(buf);
     match t {
-        stream::Next::Text(t) => print_reports(&buf[..t.len], t.limit, t.room, report),
+        stream::Next::Text(t) => {
+            let len = t.len;
+            let room = least(t.room, report.len());
+            print_reports(&buf[..len], t.limit, &mut report[..room])
+        }
         stream::Next::End => false,
         stream::Next::Broken => {
             io::write_all(STDOUT_FILENO, b"the stream is broken\n");

@@ -1,4 +1,7 @@
 pub mod Joined
+pub mod OfLine
+pub mod Booklet
+pub mod Rooms
 pub mod Numbered
 pub mod FirstNumber
 pub mod Weighings

@@ -63,9 +63,7 @@ SentLine ship read table before number after = (s : rules.Ship) (vs : List Row) 
 -- ---- all conditions
 -- The text t is read as the booklet b, of which the front and the table are plain data.
 pub record Opens (b : Booklet) (t : List ℕ) (front : Front) (table : Table) : Type 0 where
-  pub most : ℕ
-  pub atMost : most ≤ mostCharacters
-  pub read : readWhole most t ≡ got b
+  pub read : readWhole mostCharacters t ≡ got b
   pub opening : front ≡ record { ship = plainShip (b .ship); at = frontCharacters (length (b .rows)) }
   pub rows : table ≡ tableOf (b .rows)
 

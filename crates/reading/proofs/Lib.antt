@@ -3,4 +3,5 @@ pub mod Frames
 pub mod Tallies
 pub mod Lines
 pub mod ConditionLines
+pub mod FrontCharacters
 pub mod OneAnswer

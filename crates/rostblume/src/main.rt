@@ -1,8 +1,11 @@
-// The program: reads standard input, at most 12,001 characters of it, and prints the report.
+// The program: reads standard input, at most 60,001 characters of it, and prints the report lines, one for each condition.
 ghost use lib.ListN.{length};
 ghost use Rattle.rostblume.specs.Input.{Fits};
 use libc::STDIN_FILENO;
 use libc::STDOUT_FILENO;
+
+// 'The program up to 60,000, answering 1 beyond.'
+const MOST_CHARACTERS: usize = 60_000;
 
 pub enum Input {
     // That many characters stand at the front of the buffer.
@@ -31,10 +34,12 @@ fn read_input(buf: &mut [u8]) -> Input
     Input::Text(n)
 }
 
-fn print_report(text: &[u8]) {
-    let mut report = [0u8; 209];
-    instrument::judge(text, &mut report);
-    if !io::write_all(STDOUT_FILENO, &report) {
+// What is printed is what was written: one report line for a text that is refused as a whole, else one for each condition, up to 24.
+fn print_reports(text: &[u8]) {
+    let mut report = [0u8; 5016];
+    let reply = instrument::judge_within(text, MOST_CHARACTERS, &mut report);
+    let written = reply.length;
+    if !io::write_all(STDOUT_FILENO, &report[..written]) {
         os::fail(b"rostblume: standard output");
     }
 }
@@ -42,12 +47,12 @@ fn print_report(text: &[u8]) {
 fn judge_input(buf: &mut [u8]) {
     let input = read_input(buf);
     match input {
-        Input::Text(n) => print_report(&buf[..n]),
+        Input::Text(n) => print_reports(&buf[..n]),
         Input::Failed => os::fail(b"rostblume: standard input"),
     }
 }
 
 fn main() {
-    let mut text = [0u8; 12001];
+    let mut text = [0u8; 60001];
     judge_input(&mut text);
 }

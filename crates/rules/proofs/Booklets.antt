@@ -1,5 +1,5 @@
 -- What is promised of a booklet, a text of up to 24 conditions, to be read without the proofs: each promise is one theorem with a sentence above it, and its proof stands elsewhere.
--- Its words are defined in specs/: Apart says which texts are allowed as a whole and which condition lines are, Booklet in which order they are checked, Answer what is sent back.
+-- Its words are defined in specs/: Apart says which texts are allowed as a whole and which condition lines are, Booklet in which order they are checked, Answer what is sent back; Tags, Cargo and Timber what it is for a C3 to be made a C5 and a C1 a C6.
 use mathlib.Core.Path.{_≡_, sym, ap, _∙_}
 use mathlib.Core.Logic.{_↔_, _≢_}
 use mathlib.Core.List.{List, [], _∷_, _++_}
@@ -8,16 +8,20 @@ use native.Mathlib.Omega.{arith}
 use lib.ListN.{length, take, drop, getD, length-set}
 use Rattle.rules.specs.Numbers.{Bytes}
 use Rattle.rules.specs.Text.{text, Lines}
-use Rattle.rules.specs.Blocks.{conditionTag, Ship, Row}
-use Rattle.rules.specs.Layout.{Condition, mostCharacters, mostConditions}
+use Rattle.rules.specs.Blocks.{conditionTag, Ship, Row, code, timber, Tank}
+use Rattle.rules.specs.Layout.{Entries, Condition, mostCharacters, mostConditions}
 use Rattle.rules.specs.Outcome.{refused, got}
 use Rattle.rules.specs.Walk.{linesFrom}
 use Rattle.rules.specs.Report.{reportLength}
 use Rattle.rules.specs.Met.{lead, Met, Overruns}
 use Rattle.rules.specs.Places.{FramesFill, ConditionFills, SameBefore, lookedAt}
+use Rattle.rules.specs.Cargo.{MadeCargo, RetaggedLines, RetaggedLine}
+use Rattle.rules.specs.Timber.{TimberLines, TimberLine, conditionBy}
 use Rattle.rules.specs.Booklet.{conditionLines, Booklet, readWhole, conditionAt}
-use Rattle.rules.specs.Apart.{linesOf, spellBooklet, AllowedWhole, AllowedLine, LinesWithin, lineAt, alone, respelt, MetWhole}
+use Rattle.rules.specs.Apart.{linesOf, spellBooklet, AllowedWhole, AllowedLine, LinesWithin, lineAt, alone, respelt, MetWhole, Misplaced}
 use Rattle.rules.specs.Answer.{reportOf, answered, answerAt, answers, answer, inLine, number, written, room}
+use Rattle.rules.proofs.walk.Retagged.{tanks-alike}
+use Rattle.rules.proofs.walk.Timber.{weathers-alike}
 use Rattle.rules.proofs.booklet.Refusals.{conditionAt-refusal}
 use Rattle.rules.proofs.booklet.WholeText.{lines-of-refused, whole-iff-allowed, whole-unique}
 use Rattle.rules.proofs.booklet.Conditions.{condition-iff-allowed, condition-unique}
@@ -30,8 +34,11 @@ use Rattle.rules.proofs.booklet.PlaceFits.{whole-fits}
 use Rattle.rules.proofs.booklet.InsideParent.{lines-of-booklet, front-fills, line-fills}
 use Rattle.rules.proofs.booklet.OnlyOverrun.{two-whole}
 use Rattle.rules.proofs.booklet.LineOverrun.{two-line}
+use Rattle.rules.proofs.booklet.Misplaced.{two-misplaced, four-misplaced}
 use Rattle.rules.proofs.booklet.FirstFault.{whole-fault, fault-in-line}
 use Rattle.rules.proofs.booklet.TwentyFifth.{twenty-fifth}
+use Rattle.rules.proofs.booklet.OtherTag.{answers-alike, refused-alike, read-other}
+use Rattle.rules.proofs.booklet.Retagged.{made-cargo, in-timber}
 
 -- ---- which texts are read
 -- A text gets none of 1 to 6 for the whole exactly when it is allowed as a whole.
@@ -128,6 +135,39 @@ beyond-kept most t buffer b e r = reports.beyond-kept b most t buffer e r
 pub of-one : (most : ℕ) (t : List ℕ) (b : Booklet) → most ≤ mostCharacters → readWhole most t ≡ got b → length (b .conditions) ≡ 1 → answers b ≡ answered t ∷ []
 of-one most t b m e one = ones.of-one most t b e m one
 
+-- ---- cargo tanks
+-- A C5 is tested as a C3. Take a text of lines within its limit and a block in it that begins with C3: a frame, the first block of a condition that fills its line, or one further on where blocks stand end to end, in groups or not. It may be well or ill, and so may what stands before it and behind it. Let it begin with C5:
+-- the one text is refused for the whole exactly when the other is, with the same number, line and offset.
+pub tested-as-tank : (most : ℕ) (ls ls′ : List (List ℕ)) → RetaggedLines ls ls′ → Lines ls → length (text ls) ≤ most → (n l o : ℕ) → (readWhole most (text ls) ≡ refused n l o) ↔ (readWhole most (text ls′) ≡ refused n l o)
+tested-as-tank most ls ls′ retagged L h = refused-alike tanks-alike retagged L most h
+
+-- Where the first is read, so is the second. Its ship, its rows and its condition lines are those of the first but for one, number k, which has the C3 in the first and the C5 in the second; and every other condition is answered as it was.
+pub tag-alone : (most : ℕ) (ls ls′ : List (List ℕ)) → RetaggedLines ls ls′ → Lines ls → length (text ls) ≤ most → (b : Booklet) → readWhole most (text ls) ≡ got b
+    → (k : ℕ) × (l : List ℕ) × (k < length (b .conditions)) × RetaggedLine (lineAt b k) l × (readWhole most (text ls′) ≡ got (respelt b k l)) × ((i : ℕ) → i ≢ k → answer (respelt b k l) i ≡ answer b i)
+tag-alone most ls ls′ retagged L h b e = let q = read-other tanks-alike retagged L most h b e in (q .0, q .1, q .2, q .3, q .4, alones.others-answered b (q .0) (q .1))
+
+-- Of two such condition lines, whatever the ship, the rows and their place, the one is refused with 2 to 6 exactly when the other is, with the same number, line and offset. Where the first is read, the second says the same but for one tank, which is a C3 in the first and a C5 in the second.
+pub tank-in-line : (s : Ship) (vs : List Row) (ln : ℕ) (l l′ : List ℕ) → RetaggedLine l l′
+    → ((n m o : ℕ) → n ≤ 6 → (answerAt s vs ln l ≡ refused n m o) ↔ (answerAt s vs ln l′ ≡ refused n m o))
+    × ((c : Condition) → conditionAt ln l ≡ got c → (t : Tank) × (G : Entries) × MadeCargo t (c .load) G × (conditionAt ln l′ ≡ got (record { weather = c .weather; load = G })))
+tank-in-line s vs ln l l′ retagged = (answers-alike tanks-alike retagged s vs ln, made-cargo retagged ln)
+
+-- ---- timber on deck
+-- A C6 is tested as a C1, in the same way: the one text is refused for the whole exactly when the other is, with the same number, line and offset.
+pub tested-as-weather : (most : ℕ) (ls ls′ : List (List ℕ)) → TimberLines ls ls′ → Lines ls → length (text ls) ≤ most → (n l o : ℕ) → (readWhole most (text ls) ≡ refused n l o) ↔ (readWhole most (text ls′) ≡ refused n l o)
+tested-as-weather most ls ls′ other L h = refused-alike weathers-alike other L most h
+
+-- Where the first is read, so is the second. Its ship, its rows and its condition lines are those of the first but for one, number k, which has the C1 in the first and the C6 in the second; and every other condition is answered as it was, in its own set.
+pub set-alone : (most : ℕ) (ls ls′ : List (List ℕ)) → TimberLines ls ls′ → Lines ls → length (text ls) ≤ most → (b : Booklet) → readWhole most (text ls) ≡ got b
+    → (k : ℕ) × (l : List ℕ) × (k < length (b .conditions)) × TimberLine (lineAt b k) l × (readWhole most (text ls′) ≡ got (respelt b k l)) × ((i : ℕ) → i ≢ k → answer (respelt b k l) i ≡ answer b i)
+set-alone most ls ls′ other L h b e = let q = read-other weathers-alike other L most h b e in (q .0, q .1, q .2, q .3, q .4, alones.others-answered b (q .0) (q .1))
+
+-- Of two such condition lines the one is refused with 2 to 6 exactly when the other is, with the same number, line and offset. Where the first is read, the second says the same but for the set, which is the Code's in the first and timber's in the second.
+pub weather-in-line : (s : Ship) (vs : List Row) (ln : ℕ) (l l′ : List ℕ) → TimberLine l l′
+    → ((n m o : ℕ) → n ≤ 6 → (answerAt s vs ln l ≡ refused n m o) ↔ (answerAt s vs ln l′ ≡ refused n m o))
+    × ((c : Condition) → conditionAt ln l ≡ got c → (c .weather .set ≡ code) × (conditionAt ln l′ ≡ got (conditionBy timber c)))
+weather-in-line s vs ln l l′ other = (answers-alike weathers-alike other s vs ln, in-timber other ln)
+
 -- ---- what is refused
 -- A text of lines within its limit with a 25th condition line is refused with 5 there for the whole, whatever else it holds.
 pub five-at-25th : (most : ℕ) (front : List (List ℕ)) (l : List ℕ) (later : List (List ℕ)) → Lines (front ++ (l ∷ later)) → length (text (front ++ (l ∷ later))) ≤ most → conditionLines front ≡ mostConditions → getD l 0 0 ≡ conditionTag
@@ -138,6 +178,11 @@ five-at-25th most front l later B m c a = twenty-fifth most front l later B m c 
 -- the first line; one behind the ship's and some rows' that is no condition line in its place; one behind condition lines that is none. The offset is 0.
 pub two-for-the-whole : (most : ℕ) (t : List ℕ) (ls : List (List ℕ)) → LinesWithin most t ls → (ln o : ℕ) → (readWhole most t ≡ refused 2 ln o) ↔ ((o ≡ 0) × (l : List ℕ) × MetWhole ls ln l × Overruns l)
 two-for-the-whole most t ls C ln o = two-whole most t ls C ln o
+
+-- A misplaced line of such a text is refused for the whole, at its line and offset 0: with 2 where its frame runs past it or it has one or two bytes, else with 4. Misplaced is what begins with another tag than is due there, the first such line:
+-- no A1 in the first line; behind the ship and rows within their limits neither an A2 nor an A3, or an A3 before the second row, or a 41st A2; behind condition lines, whatever these hold, anything that begins with another tag than A3.
+pub misplaced : (most : ℕ) (t : List ℕ) (ls : List (List ℕ)) → LinesWithin most t ls → (ln : ℕ) (l : List ℕ) → Misplaced ls ln l → (Overruns l → readWhole most t ≡ refused 2 ln 0) × (¬ Overruns l → readWhole most t ≡ refused 4 ln 0)
+misplaced most t ls C ln l m = (two-misplaced most t ls C ln l m, four-misplaced most t ls C ln l m)
 
 -- A condition of a text that is read is refused with 2, in its line and at an offset, exactly where in the text with that condition alone a block is met there whose length runs past its parent, or one or two bytes where a block would begin.
 pub two-in-line : (most : ℕ) (t : List ℕ) (b : Booklet) → readWhole most t ≡ got b → (k : ℕ) → k < length (b .conditions) → (o : ℕ)

@@ -1,4 +1,4 @@
--- A booklet: laws of specs/Booklet and Apart, and of the answer to one (specs/Answer).
+-- A booklet: laws of specs/Booklet and Apart, and of the answer to one (specs/Answer); two booklets that differ in one tag: specs/Tags, Cargo and Timber.
 pub mod Counted
 pub mod Frames
 pub mod Refusals
@@ -12,11 +12,14 @@ pub mod LineOnly
 pub mod Alone
 pub mod AsFrames
 pub mod OfOne
-pub mod Long
+pub mod Readings
 pub mod PlaceFits
 pub mod InsideParent
 pub mod Overrun
 pub mod OnlyOverrun
 pub mod LineOverrun
+pub mod Misplaced
 pub mod FirstFault
 pub mod TwentyFifth
+pub mod OtherTag
+pub mod Retagged

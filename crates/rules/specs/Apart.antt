@@ -3,11 +3,11 @@ use mathlib.Core.Path.{_≡_}
 use mathlib.Core.Logic.{_≢_}
 use mathlib.Core.Bool.{true}
 use mathlib.Core.List.{List, [], _∷_, _++_}
-use Prim.Native.Nat.{ℕ, _+_, _≤_}
+use Prim.Native.Nat.{ℕ, _+_, _≤_, _<_}
 use lib.ListN.{length, getD, set}
 use Rattle.rules.specs.Numbers.{Bytes}
 use Rattle.rules.specs.Text.{text, Lines}
-use Rattle.rules.specs.Blocks.{block, ok, Ship, ship, Row, conditionTag}
+use Rattle.rules.specs.Blocks.{block, ok, Ship, ship, Row, row, conditionTag}
 use Rattle.rules.specs.Layout.{Condition, Reading, spellCondition, Rising, fewestRows, mostRows, mostConditions, ConditionLimits}
 use Rattle.rules.specs.Met.{Led, lead}
 use Rattle.rules.specs.Booklet.{conditionLines, Booklet}
@@ -75,3 +75,13 @@ pub data MetWhole : List (List ℕ) → ℕ → List ℕ → Type 0 where
   -- a line behind condition lines, whatever these hold, that is none
   behindConditions : (s : Ship) (vs : List Row) (cs : List (List ℕ)) (l : List ℕ) (later : List (List ℕ)) → Led s vs → fewestRows ≤ length vs → BeginA3 cs → 1 ≤ length cs → getD l 0 0 ≢ conditionTag
       → MetWhole (lead s vs (cs ++ (l ∷ later))) (2 + length vs + length cs) l
+
+-- `Misplaced ls ln l`: in the lines ls, line ln has the bytes l and is the first that begins with another tag than is due there. What stands behind it may be anything.
+pub data Misplaced : List (List ℕ) → ℕ → List ℕ → Type 0 where
+  -- no A1 in the first line
+  noShip : (l : List ℕ) (later : List (List ℕ)) → getD l 0 0 ≢ ship .tag → Misplaced (l ∷ later) 1 l
+  -- behind the ship's line and some rows' neither a row nor a condition line; or a 41st row, or an A3 before the second
+  noRow : (s : Ship) (vs : List Row) (l : List ℕ) (later : List (List ℕ)) → Led s vs → (getD l 0 0 ≡ row .tag → length vs ≡ mostRows) → (getD l 0 0 ≡ conditionTag → length vs < fewestRows) → Misplaced (lead s vs (l ∷ later)) (2 + length vs) l
+  -- behind condition lines, whatever these hold, a line that is none
+  noCondition : (s : Ship) (vs : List Row) (cs : List (List ℕ)) (l : List ℕ) (later : List (List ℕ)) → Led s vs → fewestRows ≤ length vs → BeginA3 cs → 1 ≤ length cs → getD l 0 0 ≢ conditionTag
+      → Misplaced (lead s vs (cs ++ (l ∷ later))) (2 + length vs + length cs) l

@@ -3,7 +3,7 @@ use mathlib.Core.List.{List}
 use Prim.Native.Nat.{ℕ}
 use Rattle.rules.specs.Blocks.{Tank, ordinary, cargo, Load, tank, Values}
 use Rattle.rules.specs.Layout.{Entries, leaf, group}
-use Rattle.rules.specs.Tags.{OtherTagLines}
+use Rattle.rules.specs.Tags.{OtherTagLines, OtherTagLine}
 
 -- `MadeCargo t F G`: the load G is F with one of its tanks, t, a C3 in F, made a C5. Nothing else differs.
 pub data MadeCargo (t : Tank) : Entries → Entries → Type 0 where
@@ -12,6 +12,9 @@ pub data MadeCargo (t : Tank) : Entries → Entries → Type 0 where
   afterGroup : (g : Entries) {r r′ : Entries} → MadeCargo t r r′ → MadeCargo t (group g r) (group g r′)
   inGroup : {g g′ : Entries} (r : Entries) → MadeCargo t g g′ → MadeCargo t (group g r) (group g′ r)
 
--- Lines with the tag C3 of one block made C5.
+-- Lines, and one condition line, with the tag C3 of one block made C5.
 abbrev pub RetaggedLines : List (List ℕ) → List (List ℕ) → Type 0
 RetaggedLines ls ls′ = OtherTagLines 0xC3 0xC5 ls ls′
+
+abbrev pub RetaggedLine : List ℕ → List ℕ → Type 0
+RetaggedLine l l′ = OtherTagLine 0xC3 0xC5 l l′

@@ -16,3 +16,7 @@ pub data OtherTagLines (a b : ℕ) : List (List ℕ) → List (List ℕ) → Typ
   asFrame : (left : List ℕ) (later : List (List ℕ)) → OtherTagLines a b ((a ∷ left) ∷ later) ((b ∷ left) ∷ later)
   inCondition : {body body′ : List ℕ} (later : List (List ℕ)) → length body < 65_536 → OtherTag a b body body′ → OtherTagLines a b (block conditionTag body ∷ later) (block conditionTag body′ ∷ later)
   afterLine : (line : List ℕ) {ls ls′ : List (List ℕ)} → OtherTagLines a b ls ls′ → OtherTagLines a b (line ∷ ls) (line ∷ ls′)
+
+-- And so a condition line of a booklet.
+pub data OtherTagLine (a b : ℕ) : List ℕ → List ℕ → Type 0 where
+  inBody : {body body′ : List ℕ} → length body < 65_536 → OtherTag a b body body′ → OtherTagLine a b (block conditionTag body) (block conditionTag body′)

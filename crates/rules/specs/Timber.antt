@@ -4,11 +4,14 @@ use Prim.Native.Nat.{ℕ}
 use Rattle.rules.specs.Blocks.{Set}
 use Rattle.rules.specs.Layout.{Condition, Reading}
 use Rattle.rules.specs.Curve.{Loaded}
-use Rattle.rules.specs.Tags.{OtherTagLines}
+use Rattle.rules.specs.Tags.{OtherTagLines, OtherTagLine}
 
--- Lines with the tag C1 of one block made C6.
+-- Lines, and one condition line, with the tag C1 of one block made C6.
 abbrev pub TimberLines : List (List ℕ) → List (List ℕ) → Type 0
 TimberLines ls ls′ = OtherTagLines 0xC1 0xC6 ls ls′
+
+abbrev pub TimberLine : List ℕ → List ℕ → Type 0
+TimberLine l l′ = OtherTagLine 0xC1 0xC6 l l′
 
 -- The same in another set: a condition, a reading, a loaded ship.
 abbrev pub conditionBy : Set → Condition → Condition

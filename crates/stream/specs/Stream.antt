@@ -5,6 +5,6 @@ use Rattle.stream.specs.declared.Next.the-variants as next
 
 -- A text lies within the buffer.
 abbrev pub Fits : Next → ℕ → Type 0
-Fits (next.Text n) room = n ≤ room
+Fits (next.Text t) room = t .len ≤ room
 Fits next.End room = Unit {0}
 Fits next.Broken room = Unit {0}

@@ -95,18 +95,19 @@ module _ (t : List ℕ) where
   no-line s true h ln = rw (h ln .0) (first-line ln (split t .0) s [] (h ln .1) ∙ test-refused _ _ _ _ refl)
   no-line s false h ln = refused-line ln (split t .0) (split t .1) (h ln)
 
-  some-line : (out : List ℕ) (x : ℕ) (d s : List ℕ) → s ≡ drop (2 * length (x ∷ d) + 1) t → 2 * length (x ∷ d) < length t → (f : Bool) → ((ln : ℕ) → After ln (split t) (x ∷ d) s f)
+  some-line : (out : List ℕ) (x : ℕ) (d s : List ℕ) → decoded t ≡ x ∷ d → s ≡ drop (2 * length (x ∷ d) + 1) t → 2 * length (x ∷ d) < length t → (f : Bool) → ((ln : ℕ) → After ln (split t) (x ∷ d) s f)
       → LineIs t (over (x ∷ d) out) (cond f (line.Line (length (x ∷ d))) line.Not)
   unfolding linesFrom After
-  some-line out x d s e l true h = record {
+  some-line out x d s q e l true h = record {
     some = omega arith;
     within = l;
     line = x ∷ d;
+    spelt = sym q;
     long = refl;
     held = λ m a b. over-held m (x ∷ d) out a (rw (over-length (x ∷ d) out) at b);
     lines = λ ln. rw (h ln .0) (first-line ln (split t .0) s (x ∷ d) (h ln .1) ∙ test-got _ _ _ _ refl ∙ rw (← e));
   }
-  some-line out x d s e l false h = λ ln. refused-line ln (split t .0) (split t .1) (h ln)
+  some-line out x d s q e l false h = λ ln. refused-line ln (split t .0) (split t .1) (h ln)
 
   ended-line : (out d rest : List ℕ) → decoded t ≡ d → drop (2 * length d) t ≡ rest → ((ln : ℕ) → Left ln t (split t) d rest) → LineIs t (over d out) (ended (length d) rest)
   unfolding ended linesFrom Left
@@ -114,7 +115,7 @@ module _ (t : List ℕ) where
   ended-line out [] (c ∷ s) e r h = no-line s (eqb c LF) h
   ended-line out (x ∷ d) [] e r h = λ ln. rw (h ln) (unended-line ln t (omega (arith, decoded-half t, ap length e)))
   ended-line out (x ∷ d) (c ∷ s) e r h =
-      some-line out x d s (sym (ap (drop 1) r) ∙ drop-drop 1 (2 * length (x ∷ d)) t) (omega (arith, ap length r, length-drop (2 * length (x ∷ d)) t)) (eqb c LF) h
+      some-line out x d s e (sym (ap (drop 1) r) ∙ drop-drop 1 (2 * length (x ∷ d)) t) (omega (arith, ap length r, length-drop (2 * length (x ∷ d)) t)) (eqb c LF) h
 
   -- What `line_at` ensures says what the lines of the text are.
   pub line-is : (kept out : List ℕ) (r : LineRead) → (r ≡ lineOf t) × (out ≡ over (decoded t) kept) → LineIs t out r

@@ -75,6 +75,7 @@ pub record Leads (t out : List ℕ) (n : ℕ) : Type 0 where
   pub some : 0 < n
   pub within : 2 * n < length t
   pub line : List ℕ
+  pub spelt : line ≡ decoded t
   pub long : length line ≡ n
   pub held : (m : ℕ) → m ≤ n → m ≤ length out → take m out ≡ take m line
   pub lines : (ln : ℕ) → linesFrom ln t ≡ (linesFrom (ln + 1) (drop (2 * n + 1) t) >>= λ r. got (line ∷ r))

@@ -1,5 +1,6 @@
--- `next_report` meets its contract: the text lies within the buffer.
+-- `bench::next_report` meets its contract: the text lies within its buffer, and its room within the report's.
 use mathlib.Core.Path.{sym}
+use native.Mathlib.Omega.{arith}
 use lib.Seq.{length-take-le}
 use borrow.Author.Needs.{needs}
 use Rattle.bench.proofs.next_report.Statement.{statement}
@@ -11,16 +12,23 @@ next-text-requires c κs = search needs
 enum-known-t : tie.Need-enum-known-t
 enum-known-t c = search needs
 
-slice-reshare-prefix-print-report : tie.Need-slice-reshare-prefix-print-report
-slice-reshare-prefix-print-report c = rw (c .before .t .given .1) at (c .before .before .before .before .before .next-text .ensures)
+least-requires : tie.Need-least-requires
+least-requires c κs = search needs
 
-slice-aggregate-print-report : tie.Need-slice-aggregate-print-report
-slice-aggregate-print-report c =
-    let k = c .before in
-    sym (length-take-le _ _ (rw (k .before .t .given .1) at (k .before .before .before .before .before .next-text .ensures)))
+slice-reshare-prefix-print-reports : tie.Need-slice-reshare-prefix-print-reports
+slice-reshare-prefix-print-reports c = rw (c .before .before .t .given .1) at (c .before .before .before .before .before .before .next-text .ensures)
 
-print-report-requires : tie.Need-print-report-requires
-print-report-requires c κs = search needs
+slice-aggregate-print-reports : tie.Need-slice-aggregate-print-reports
+slice-aggregate-print-reports c = let k = c .before .before in sym (length-take-le _ _ (rw (k .before .t .given .1) at (k .before .before .before .before .before .next-text .ensures)))
+
+slice-relend-prefix-print-reports : tie.Need-slice-relend-prefix-print-reports
+slice-relend-prefix-print-reports c = search needs
+
+slice-aggregate-print-reports-2 : tie.Need-slice-aggregate-print-reports-2
+slice-aggregate-print-reports-2 c = sym (length-take-le _ _ (omega (arith, c .before .before .least .ensures)))
+
+print-reports-requires : tie.Need-print-reports-requires
+print-reports-requires c κs = search needs
 
 enum-told : tie.Need-enum-told
 enum-told c = search needs
@@ -37,17 +45,20 @@ write-all-requires c κs = search needs
 same-length : tie.Need-same-length
 same-length c = search needs
 
+same-length-2 : tie.Need-same-length-2
+same-length-2 c = search needs
+
 returns : tie.Need-returns
 returns c = search needs
 
-same-length-2 : tie.Need-same-length-2
-same-length-2 c = search needs
+same-length-3 : tie.Need-same-length-3
+same-length-3 c = search needs
 
 returns-2 : tie.Need-returns-2
 returns-2 c = search needs
 
-same-length-3 : tie.Need-same-length-3
-same-length-3 c = search needs
+same-length-4 : tie.Need-same-length-4
+same-length-4 c = search needs
 
 returns-3 : tie.Need-returns-3
 returns-3 c = search needs
@@ -58,16 +69,20 @@ next-report-spec =
     (tie.spec
     next-text-requires
     enum-known-t
-    slice-reshare-prefix-print-report
-    slice-aggregate-print-report
-    print-report-requires
+    least-requires
+    slice-reshare-prefix-print-reports
+    slice-aggregate-print-reports
+    slice-relend-prefix-print-reports
+    slice-aggregate-print-reports-2
+    print-reports-requires
     enum-told
     enum-told-2
     slice-aggregate-write-all
     write-all-requires
     same-length
-    returns
     same-length-2
-    returns-2
+    returns
     same-length-3
+    returns-2
+    same-length-4
     returns-3)

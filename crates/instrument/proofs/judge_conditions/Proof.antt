@@ -1,106 +1,126 @@
+-- `judge_conditions` meets its contract: what is left of the text, of the buffer and of the number comes to what the whole comes to.
+use borrow.Author.Needs.{needs}
+use mathlib.Core.Path.{_≡_, refl, ap, sym, _∙_}
+use Prim.Native.Nat.{_+_, _≤_, _<_}
+use native.Mathlib.Omega.{arith}
+use lib.ListN.{length}
+use denote.Ref.{now}
+use Rattle.rules.specs.Booklet.{Booklet}
+use Rattle.rules.proofs.layout.Parts.{length-part}
+use Rattle.reading.specs.declared.Front.{Front}
+use Rattle.reading.proofs.ConditionLines.{room-kept}
+use Rattle.instrument.specs.Sent.{Opens}
+use Rattle.instrument.proofs.Booklet.{Going, one-booklet, start-within, count-small, going-start, first, room-here, part-long, line-small, says, taken-within, going-next, going-end}
 use Rattle.instrument.proofs.judge_conditions.Statement.{statement}
 use Rattle.instrument.proofs.judge_conditions.Tie as tie
-use Rattle.instrument.proofs.judge_conditions.Reads as reads
-use Rattle.instrument.proofs.judge_conditions.Lts as lts
-use Rattle.instrument.proofs.first_number.Reads as first-number-reads
-use Rattle.instrument.proofs.judge_line.Reads as judge-line-reads
-use Rattle.reading.proofs.read_condition.Reads as read-condition-reads
 
 abbrev Inv-loop : tie.InvT-loop
-Inv-loop text table report₀ bytes₀ start ship rest₀ line₀ at₀ number₀ report bytes rest line at number =
-    ?
+Inv-loop text table report₀ bytes₀ start ship rest₀ line₀ at₀ number₀ report bytes rest line at number = (length bytes ≡ 4099) × ((b : Booklet) × (front : Front) × Opens b text front table × (front .ship ≡ ship) × Going b report₀ rest line at number report)
 
 abbrev μ-loop : tie.MeasureT-loop
-μ-loop text table report₀ bytes₀ start ship rest₀ line₀ at₀ number₀ report bytes rest line at number =
-    ?
+μ-loop text table report₀ bytes₀ start ship rest₀ line₀ at₀ number₀ report bytes rest line at number = length rest
 
--- src/lib.rt:101:20
 sub-rest : tie.Need-sub-rest Inv-loop μ-loop
-sub-rest c = ?
+sub-rest c = let s = c .before .before .before in omega (arith, start-within (s .pre .0) (now (s .args .text)) (s .args .front) (s .args .table) (s .pre .1) (now (s .args .report)))
 
--- src/lib.rt:101:20
 part-rest-start : tie.Need-part-rest-start Inv-loop μ-loop
-part-rest-start c = ?
+part-rest-start c = let s = c .before .before .before in omega (arith, start-within (s .pre .0) (now (s .args .text)) (s .args .front) (s .args .table) (s .pre .1) (now (s .args .report)))
 
--- src/lib.rt:101:20
 part-rest-end : tie.Need-part-rest-end Inv-loop μ-loop
-part-rest-end c = ?
+part-rest-end c = search needs
 
--- src/lib.rt:102:20
 add-line : tie.Need-add-line Inv-loop μ-loop
-add-line c = ?
+add-line c = let s = c .before .before .before .before .before in omega (arith, count-small (s .pre .0) (now (s .args .text)) (s .args .front) (s .args .table) (s .pre .1) (now (s .args .report)))
 
--- src/lib.rt:105:5
 loop-holds : tie.Need-loop-holds Inv-loop μ-loop
-loop-holds c = ?
+loop-holds c =
+    let s = c .before .before .before .before .before in
+    let P = s .pre in
+    (refl, (P .0, s .args .front, P .1, refl, going-start (P .0) (now (s .args .text)) (s .args .front) (s .args .table) (P .1) (now (s .args .report)) (P .2)))
 
--- src/lib.rt:106:53
 slice-aggregate-read-condition : tie.Need-slice-aggregate-read-condition Inv-loop μ-loop
-slice-aggregate-read-condition c = ?
+slice-aggregate-read-condition c = sym (c .before .before .loop .inv .0)
 
--- src/lib.rt:106:13
 read-condition-requires : tie.Need-read-condition-requires Inv-loop μ-loop
-read-condition-requires c κs = ?
+read-condition-requires c κs = c .before .before .loop .inv .0
 
--- src/lib.rt:109:66
 add-judge-line : tie.Need-add-judge-line Inv-loop μ-loop
-add-judge-line c = ?
+add-judge-line c = search needs
 
--- src/lib.rt:109:50
 sub-judge-line : tie.Need-sub-judge-line Inv-loop μ-loop
-sub-judge-line c = ?
+sub-judge-line c = search needs
 
--- src/lib.rt:109:50
 part-judge-line-start : tie.Need-part-judge-line-start Inv-loop μ-loop
-part-judge-line-start c = ?
+part-judge-line-start c = search needs
 
--- src/lib.rt:109:50
 part-judge-line-end : tie.Need-part-judge-line-end Inv-loop μ-loop
-part-judge-line-end c = ?
+part-judge-line-end c =
+    let o = c .before .before .before in
+    let g = o .before .loop .inv .1 in
+    omega (arith, room-here (g .0) _ (g .1) _ (g .2) _ (g .4) (omega (arith, o .loop-test .taken)))
 
--- src/lib.rt:109:13
 judge-line-requires : tie.Need-judge-line-requires Inv-loop μ-loop
-judge-line-requires c κs = ?
+judge-line-requires c κs =
+    let o = c .before .before .before .before in
+    let g = o .before .loop .inv .1 in
+    let r = c .before .before .read-condition in
+    (part-long (g .0) _ (g .1) _ (g .2) _ (g .4) (omega (arith, o .loop-test .taken)), (g .0 .ship, g .0 .rows, o .before .loop .line, first (g .0) _ (g .1) _ (g .2) _ (g .4) (omega (arith, o .loop-test .taken)) .line, rw (← (g .3)) (says (g .0) _ (g .1) _ (g .2) _ (g .4) (omega (arith, o .loop-test .taken)) (r .result) (r .ensures .0))))
 
--- src/lib.rt:110:9
 first-number-requires : tie.Need-first-number-requires Inv-loop μ-loop
-first-number-requires c κs = ?
+first-number-requires c κs = search needs
 
--- src/lib.rt:111:16
 sub-rest-2 : tie.Need-sub-rest-2 Inv-loop μ-loop
-sub-rest-2 c = ?
+sub-rest-2 c =
+    let o = c .before .before .before .before .before .before .before .before in
+    let g = o .before .loop .inv .1 in
+    let r = c .before .before .before .before .before .before .read-condition in
+    omega (arith, taken-within (g .0) _ (g .1) _ (g .2) _ (g .4) (omega (arith, o .loop-test .taken)) (r .result) (r .ensures .0))
 
--- src/lib.rt:111:16
 part-rest-start-2 : tie.Need-part-rest-start-2 Inv-loop μ-loop
-part-rest-start-2 c = ?
+part-rest-start-2 c =
+    let o = c .before .before .before .before .before .before .before .before in
+    let g = o .before .loop .inv .1 in
+    let r = c .before .before .before .before .before .before .read-condition in
+    omega (arith, taken-within (g .0) _ (g .1) _ (g .2) _ (g .4) (omega (arith, o .loop-test .taken)) (r .result) (r .ensures .0))
 
--- src/lib.rt:111:16
 part-rest-end-2 : tie.Need-part-rest-end-2 Inv-loop μ-loop
-part-rest-end-2 c = ?
+part-rest-end-2 c = search needs
 
--- src/lib.rt:112:16
 add-line-2 : tie.Need-add-line-2 Inv-loop μ-loop
-add-line-2 c = ?
+add-line-2 c =
+    let o = c .before .before .before .before .before .before .before .before .before in
+    let g = o .before .loop .inv .1 in
+    omega (arith, line-small (g .0) _ (g .1) _ (g .2) _ (g .4) (omega (arith, o .loop-test .taken)))
 
--- src/lib.rt:113:14
 add-at : tie.Need-add-at Inv-loop μ-loop
-add-at c = ?
+add-at c = search needs
 
--- src/lib.rt:105:5
 loop-less : tie.Need-loop-less Inv-loop μ-loop
-loop-less c = ?
+loop-less c =
+    let o = c .before .before .before .before .before .before .before .before .before in
+    let g = o .before .loop .inv .1 in
+    let r = c .before .before .before .before .before .before .before .read-condition in
+    let w = taken-within (g .0) _ (g .1) _ (g .2) _ (g .4) (omega (arith, o .loop-test .taken)) (r .result) (r .ensures .0) in
+    omega (arith, w, length-part (now (o .before .loop .rest)) (r .result .taken) (length (now (o .before .loop .rest))) (omega arith))
 
--- src/lib.rt:105:5
 loop-again : tie.Need-loop-again Inv-loop μ-loop
-loop-again c = ?
+loop-again c =
+    let o = c .before .before .before .before .before .before .before .before .before in
+    let g = o .before .loop .inv .1 in
+    let r = c .before .before .before .before .before .before .before .read-condition in
+    let j = c .before .before .before .before .judge-line in
+    let f = first (g .0) _ (g .1) _ (g .2) _ (g .4) (omega (arith, o .loop-test .taken)) in
+    let t = says (g .0) _ (g .1) _ (g .2) _ (g .4) (omega (arith, o .loop-test .taken)) (r .result) (r .ensures .0) in
+    (room-kept _ _ _ (r .ensures .1) ∙ o .before .loop .inv .0, (g .0, g .1, g .2, g .3, rw (c .before .first-number .ensures) (going-next (g .0) _ (g .1) _ (g .2) _ (g .4) (omega (arith, o .loop-test .taken)) (r .result) (r .ensures .0) (j .ensures (g .0 .ship) (g .0 .rows) _ (f .line) (rw (← (g .3)) t)))))
 
--- src/lib.rt:94:1
 same-length : tie.Need-same-length Inv-loop μ-loop
-same-length c = ?
+same-length c = c .before .loop .inv .1 .4 .same
 
--- src/lib.rt:94:1
 returns : tie.Need-returns Inv-loop μ-loop
-returns c = ?
+returns c = λ b O.
+    let g = c .before .loop .inv .1 in
+    let e = one-booklet O (g .2) in
+    rw e (going-end (g .0) _ _ _ (g .2) _ (g .4) (omega arith))
 
 pub judge-conditions-spec : {M : Type 1} → statement M
 judge-conditions-spec =

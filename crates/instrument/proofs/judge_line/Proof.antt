@@ -1,47 +1,51 @@
+-- `instrument::judge_line` meets its contract: the line's own refusal, or what is judged of its condition.
+use Rattle.instrument.proofs.OfLine.{line-fits, line-refused, line-says, line-judged}
 use borrow.Author.Needs.{needs}
 use Rattle.instrument.proofs.judge_line.Statement.{statement}
 use Rattle.instrument.proofs.judge_line.Tie as tie
-use Rattle.instrument.proofs.judge_line.Reads as reads
-use Rattle.instrument.proofs.judge_line.Lts as lts
-use Rattle.frames.proofs.ConditionRead.fault.Reads as fault-reads
-use Rattle.instrument.proofs.judge_condition.Reads as judge-condition-reads
-use Rattle.instrument.proofs.refuse.Reads as refuse-reads
 
--- src/lib.rt:80:31
 enum-known-read : tie.Need-enum-known-read
 enum-known-read c = search needs
 
--- src/lib.rt:81:23
 enum-told : tie.Need-enum-told
 enum-told c = search needs
 
--- src/lib.rt:81:23
 fault-requires : tie.Need-fault-requires
 fault-requires c κs = search needs
 
--- src/lib.rt:81:9
 refuse-requires : tie.Need-refuse-requires
-refuse-requires c κs = ?
+refuse-requires c κs =
+    let f = c .before in
+    let m = f .before in
+    let T = m .before .before .before .pre .1 in
+    (search needs, line-fits (T .0) (T .1) (T .2) (T .3) _ _ _ (T .4) _ _ (m .enum-told .given .1) (f .fault .ensures))
 
--- src/lib.rt:81:9
 same-length : tie.Need-same-length
 same-length c = search needs
 
--- src/lib.rt:81:9
 returns : tie.Need-returns
-returns c = ?
+returns c = λ s vs ln l T.
+    let r = c .before .before in
+    let f = r .before .before in
+    let m = f .before in
+    line-refused s vs ln l _ _ _ T _ _ (m .enum-told .given .1) (f .fault .ensures) (r .refuse .ensures)
 
--- src/lib.rt:83:5
 judge-condition-requires : tie.Need-judge-condition-requires
-judge-condition-requires c κs = ?
+judge-condition-requires c κs =
+    let m = c .before .before in
+    let T = m .before .before .before .pre .1 in
+    let w = line-says (T .0) (T .1) (T .2) (T .3) _ _ _ (T .4) _ (m .read .given .1) in
+    (search needs, (_, w .2))
 
--- src/lib.rt:75:1
 same-length-2 : tie.Need-same-length-2
 same-length-2 c = search needs
 
--- src/lib.rt:75:1
 returns-2 : tie.Need-returns-2
-returns-2 c = ?
+returns-2 c = λ s vs ln l T.
+    let j = c .before .before in
+    let m = j .before .before .before in
+    let w = line-says s vs ln l _ _ _ T _ (m .read .given .1) in
+    line-judged s vs ln l _ _ _ T _ (m .read .given .1) (w .0) (w .1) (j .judge-condition .ensures _ (w .2))
 
 pub judge-line-spec : {M : Type 1} → statement M
 judge-line-spec =

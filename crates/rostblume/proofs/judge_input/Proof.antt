@@ -11,16 +11,14 @@ read-input-requires c κs = search needs
 enum-known-input : tie.Need-enum-known-input
 enum-known-input c = search needs
 
-slice-reshare-prefix-print-report : tie.Need-slice-reshare-prefix-print-report
-slice-reshare-prefix-print-report c = rw (c .before .input .given .1) at (c .before .before .before .before .before .read-input .ensures)
+slice-reshare-prefix-print-reports : tie.Need-slice-reshare-prefix-print-reports
+slice-reshare-prefix-print-reports c = rw (c .before .input .given .1) at (c .before .before .before .before .before .read-input .ensures)
 
-slice-aggregate-print-report : tie.Need-slice-aggregate-print-report
-slice-aggregate-print-report c =
-    let k = c .before in
-    sym (length-take-le _ _ (rw (k .before .input .given .1) at (k .before .before .before .before .before .read-input .ensures)))
+slice-aggregate-print-reports : tie.Need-slice-aggregate-print-reports
+slice-aggregate-print-reports c = let k = c .before in sym (length-take-le _ _ (rw (k .before .input .given .1) at (k .before .before .before .before .before .read-input .ensures)))
 
-print-report-requires : tie.Need-print-report-requires
-print-report-requires c κs = search needs
+print-reports-requires : tie.Need-print-reports-requires
+print-reports-requires c κs = search needs
 
 enum-told : tie.Need-enum-told
 enum-told c = search needs
@@ -49,9 +47,9 @@ judge-input-spec =
     (tie.spec
     read-input-requires
     enum-known-input
-    slice-reshare-prefix-print-report
-    slice-aggregate-print-report
-    print-report-requires
+    slice-reshare-prefix-print-reports
+    slice-aggregate-print-reports
+    print-reports-requires
     enum-told
     slice-aggregate-fail
     fail-requires

@@ -1,4 +1,4 @@
--- Request 3 by computation: P1 as a booklet of one, booklets of two conditions and of 24, each refusal for the whole in its place, rooms and limits.
+-- Request 3 by computation: P1 and P10 to P13 as booklets of one, booklets of conditions in two sets, of two conditions and of 24, each refusal for the whole in its place, rooms and limits.
 use mathlib.Core.Path.{_≡_, refl}
 use mathlib.Core.List.{List, [], _∷_, _++_}
 use Prim.Native.Nat.{ℕ, _*_, _-_}
@@ -9,17 +9,28 @@ use Rattle.rules.specs.Report.{concat}
 use Rattle.rules.specs.Answer.{number, bytesSent, written, room}
 use Rattle.rules.proofs.bench.Cases.{lines, refusal}
 use Rattle.rules.proofs.bench.Bench.{ship, row1, row2, P1, P1-output}
+use Rattle.rules.proofs.bench.TimberDeck.{coaster-output, coaster-timber-output}
 
 -- ---- texts
--- P1's condition; with the length of its C2 a byte too much; with a mass below the table's first row.
+-- P1's condition; with the length of its C2 a byte too much, and a byte too little; with a mass below the table's first row.
 abbrev fine : String
 fine = "A30018C1000C000009C40FA002BC01F400C8C2000600155CC00FA0"
 
 abbrev overrun : String
 overrun = "A30018C1000C000009C40FA002BC01F400C8C2000700155CC00FA0"
 
+abbrev short : String
+short = "A30018C1000C000009C40FA002BC01F400C8C2000500155CC00FA0"
+
 abbrev light : String
 light = "A30018C1000C000009C40FA002BC01F400C8C2000600155CBF0FA0"
+
+-- The coaster's condition, with other winds and angles than P1's, in the Code's set and in timber's.
+abbrev plain : String
+plain = "A30018C1000C000001F40FA002BC012B0001C2000600155CC00F3C"
+
+abbrev decked : String
+decked = "A30018C6000C000001F40FA002BC012B0001C2000600155CC00F3C"
 
 -- Ship and rows of P1, with any lines behind them.
 abbrev booklet : List String → List ℕ
@@ -39,11 +50,37 @@ abbrev pub All : List BookletCase → Type 0
 All [] = Unit {0}
 All (c ∷ cs) = Holds c × All cs
 
+-- ---- the sheet
+-- P1, P10, P11, P12, an empty text, and P13.
+abbrev pub sheet : List BookletCase
+sheet =
+    sends mostCharacters P1 211 0 (P1-output ∷ [])
+    ∷ sends mostCharacters (booklet (overrun ∷ [])) 209 2 (refusal "D100650200040012" ∷ [])
+    ∷ sends mostCharacters (booklet (short ∷ [])) 209 3 (refusal "D100650300040012" ∷ [])
+    ∷ sends mostCharacters [] 209 5 (refusal "D100650500000000" ∷ [])
+    ∷ sends mostCharacters (booklet (light ∷ [])) 209 7 (refusal "D100650700000000" ∷ [])
+    ∷ []
+
+pub sheet-holds : All sheet
+unfolding number bytesSent written
+sheet-holds = ((refl, refl, refl), ((refl, refl, refl), ((refl, refl, refl), ((refl, refl, refl), ((refl, refl, refl), tt)))))
+
+-- ---- two weathers
+-- Each condition is judged with its own wind and by its own set, whichever stands first.
+abbrev pub weathers : List BookletCase
+weathers =
+    sends mostCharacters (booklet (fine ∷ plain ∷ decked ∷ [])) 627 0 (P1-output ∷ coaster-output ∷ coaster-timber-output ∷ [])
+    ∷ sends mostCharacters (booklet (decked ∷ plain ∷ fine ∷ [])) 627 0 (coaster-timber-output ∷ coaster-output ∷ P1-output ∷ [])
+    ∷ []
+
+pub weathers-hold : All weathers
+unfolding number bytesSent written
+weathers-hold = ((refl, refl, refl), ((refl, refl, refl), tt))
+
 -- ---- each condition for itself
 abbrev pub apart : List BookletCase
 apart =
-    sends mostCharacters P1 211 0 (P1-output ∷ [])
-    ∷ sends mostCharacters (booklet (overrun ∷ fine ∷ [])) 420 2 (refusal "D100650200040012" ∷ P1-output ∷ [])
+    sends mostCharacters (booklet (overrun ∷ fine ∷ [])) 420 2 (refusal "D100650200040012" ∷ P1-output ∷ [])
     ∷ sends mostCharacters (booklet (fine ∷ overrun ∷ [])) 418 2 (P1-output ∷ refusal "D100650200050012" ∷ [])
     ∷ sends mostCharacters (booklet (fine ∷ light ∷ overrun ∷ [])) 627 7 (P1-output ∷ refusal "D100650700000000" ∷ refusal "D100650200060012" ∷ [])
     ∷ sends mostCharacters (booklet ("A3" ∷ fine ∷ [])) 418 2 (refusal "D100650200040000" ∷ P1-output ∷ [])
@@ -51,7 +88,7 @@ apart =
 
 pub apart-hold : All apart
 unfolding number bytesSent written
-apart-hold = ((refl, refl, refl), ((refl, refl, refl), ((refl, refl, refl), ((refl, refl, refl), ((refl, refl, refl), tt)))))
+apart-hold = ((refl, refl, refl), ((refl, refl, refl), ((refl, refl, refl), ((refl, refl, refl), tt))))
 
 -- ---- for the whole text
 -- An A3 before the second row, a line behind an A3, each with 4 and with 2, and before a fault inside a condition; a 25th condition line, also behind a misplaced one; no A3; no line.

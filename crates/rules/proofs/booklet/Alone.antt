@@ -68,6 +68,10 @@ module _ (s : Ship) (vs : List Row) where
   answers-set (x ∷ cs) ln (suc k) zero l h = refl
   answers-set (x ∷ cs) ln (suc k) (suc i) l h = answers-set cs (ln + 1) k i l (λ e. h (ap suc e))
 
+-- With another line in the place of one, the others are answered as before.
+pub others-answered : (b : Booklet) (k : ℕ) (l : List ℕ) (i : ℕ) → i ≢ k → answer (respelt b k l) i ≡ answer b i
+others-answered b k l i d = answers-set (b .ship) (b .rows) (b .conditions) (2 + length (b .rows)) k i l d
+
 module _ (b : Booklet) (k : ℕ) (h : k < length (b .conditions)) where
   pub answer-at : answer b k ≡ answerAt (b .ship) (b .rows) (2 + length (b .rows) + k) (lineAt b k)
   answer-at = answers-at (b .ship) (b .rows) (b .conditions) (2 + length (b .rows)) (2 + length (b .rows) + k) k refl h
@@ -95,5 +99,5 @@ module _ (b : Booklet) (k : ℕ) (h : k < length (b .conditions)) where
         let w = sound most t b e .0 in
         let n : length (set (b .conditions) k l) ≡ length (b .conditions) = length-set (b .conditions) k l in (
           complete most (respelt b k l) (record { hull = w .hull; rising = w .rising; few = w .few; many = w .many; begin = begin-set (b .conditions) k l (w .begin) a B; some = omega (arith, w .some); atMost = omega (arith, w .atMost); long = m }),
-          λ i d. answers-set (b .ship) (b .rows) (b .conditions) (2 + length (b .rows)) k i l d,
+          others-answered b k l,
         )

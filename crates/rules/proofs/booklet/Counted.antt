@@ -6,7 +6,8 @@ use Prim.Native.Nat.{ℕ, suc, _+_, _-_, _≤_}
 use native.Mathlib.Omega.{arith}
 use lib.Dec.{leb, ltb}
 use lib.ListN.{length, getD}
-use borrow.Author.Tests.{ltb-true, lt-ltb, eq-eqb}
+use borrow.Author.Tests.{ltb-true, lt-ltb, le-leb, eq-eqb}
+use Rattle.rules.specs.Text.{text, Lines}
 use Rattle.rules.specs.Blocks.{ship, row, conditionTag, spellBlock, block, Ship, Row}
 use Rattle.rules.specs.Layout.{fewestRows, mostConditions}
 use Rattle.rules.specs.Outcome.{got, test, _>>=_, _>>_}
@@ -14,7 +15,8 @@ use Rattle.rules.specs.Walk.{linesFrom, closed}
 use Rattle.rules.specs.Met.{behindRows, lead}
 use Rattle.rules.specs.Booklet.{isCondition, conditionLines, counted, countedLines, rowAt, onlyConditions, behindShip}
 use Rattle.rules.specs.Apart.{BeginA3}
-use Rattle.rules.proofs.walk.Outcome.{test-inv, test-got}
+use Rattle.rules.proofs.layout.Lines.{lines-got}
+use Rattle.rules.proofs.walk.Outcome.{test-inv, bind-got, test-got}
 
 -- ---- one line further
 module _ (l : List ℕ) (ls : List (List ℕ)) where
@@ -55,6 +57,10 @@ module _ (l : List ℕ) (ls : List (List ℕ)) where
 pub countedLines-steps : (most : ℕ) (t : List ℕ) → countedLines most t ≡ (test (leb (length t) most) 1 0 0 >> (linesFrom 1 t >>= λ ls. counted 1 mostConditions ls >>= λ u. got ls))
 unfolding countedLines _>>_
 countedLines-steps most t = refl
+
+-- Of lines within the limit only the 25th is still to be found.
+pub lines-counted : (most : ℕ) (ls : List (List ℕ)) → Lines ls → length (text ls) ≤ most → countedLines most (text ls) ≡ (counted 1 mostConditions ls >>= λ u. got ls)
+lines-counted most ls B l = countedLines-steps most (text ls) ∙ test-got _ _ _ _ (le-leb _ _ l) ∙ bind-got _ (lines-got ls 1 B)
 
 -- ---- at most n
 pub counted-sound : (ls : List (List ℕ)) (ln n : ℕ) (u : Unit {0}) → counted ln n ls ≡ got u → conditionLines ls ≤ n

@@ -130,7 +130,7 @@ unfolding bookFrames
 frames-got b F = bind-got _ (ship-got 1 (b .ship) (F .hull)) ∙ bind-got _ (behind-got (b .rows) (b .conditions) 2 0 0 (F .rising) (omega (arith, F .few)) (omega (arith, F .many)) (F .begin) (F .some))
 
 -- ---- what is spelled is lines
-Lines-begin : (ls : List (List ℕ)) → BeginA3 ls → Lines ls
+pub Lines-begin : (ls : List (List ℕ)) → BeginA3 ls → Lines ls
 unfolding BeginA3 Lines
 Lines-begin [] B = tt
 Lines-begin (l ∷ ls) B = (some l (B .0), B .1, Lines-begin ls (B .2))

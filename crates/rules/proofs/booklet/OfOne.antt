@@ -60,7 +60,7 @@ module _ (most : ℕ) (t : List ℕ) (b : Booklet) (e : readWhole most t ≡ got
   abbrev place : ℕ
   place = 2 + length (b .rows)
 
-  reads-one : read t ≡ (conditionAt place line >>= λ c. got (readingAt b c))
+  pub reads-one : read t ≡ (conditionAt place line >>= λ c. got (readingAt b c))
   unfolding spellBooklet
   reads-one =
       let s = sound most t b e in

@@ -23,7 +23,7 @@ use Rattle.rules.proofs.booklet.Counted.{begins, only-a3, only-other, b
 use Rattle.rules.proofs.booklet.Frames.{row-got, not-a3}
 
 -- A line that is no condition line in its place.
-no-condition : (l : List ℕ) (k : ℕ) → (fewestRows ≤ k → getD l 0 0 ≢ conditionTag) → (isCondition l && leb fewestRows k) ≡ false
+pub no-condition : (l : List ℕ) (k : ℕ) → (fewestRows ≤ k → getD l 0 0 ≢ conditionTag) → (isCondition l && leb fewestRows k) ≡ false
 no-condition l k h = go (isCondition l) (leb fewestRows k) refl refl
   where
     go : (a b : Bool) → isCondition l ≡ a → leb fewestRows k ≡ b → (a && b) ≡ false
@@ -40,7 +40,7 @@ behind-rows (r ∷ vs) ls ln ln′ k k′ p R u v m e =
     behind-row (spellBlock row r) (behindRows vs ls) ln k p (not-a3 k r) ∙ bind-got _ (row-got ln k p r (R .0) (R .1) (omega arith))
     ∙ bind-refused _ (behind-rows vs ls (ln + 1) ln′ (k + 1) k′ (r .mass) (R .2) (omega arith) (omega arith) m e)
 
-led-behind : (s : Ship) (vs : List Row) (ls : List (List ℕ)) {a b c : ℕ} → Led s vs → ((q : ℕ) → behindShip ls (2 + length vs) (length vs) q ≡ refused a b c) → bookFrames (lead s vs ls) ≡ refused a b c
+pub led-behind : (s : Ship) (vs : List Row) (ls : List (List ℕ)) {a b c : ℕ} → Led s vs → ((q : ℕ) → behindShip ls (2 + length vs) (length vs) q ≡ refused a b c) → bookFrames (lead s vs ls) ≡ refused a b c
 unfolding bookFrames
 led-behind s vs ls L e = bind-got _ (ship-got 1 s (L .hull)) ∙ bind-refused _ (behind-rows vs ls 2 (2 + length vs) 0 (length vs) 0 (L .rising) refl (omega arith) (L .many) e)
 
@@ -49,7 +49,7 @@ unfolding BeginA3
 only-behind [] ls ln ln′ B e = let q : ln′ ≡ ln = omega arith in rw q
 only-behind (x ∷ cs) ls ln ln′ B e = only-a3 x (cs ++ ls) ln (begins x (B .0)) ∙ only-behind cs ls (ln + 1) ln′ (B .2) (omega arith)
 
-conditions-behind : (cs ls : List (List ℕ)) (ln k p : ℕ) {a b c : ℕ} → fewestRows ≤ k → BeginA3 cs → 1 ≤ length cs → onlyConditions (ln + length cs) ls ≡ refused a b c → behindShip (cs ++ ls) ln k p ≡ refused a b c
+pub conditions-behind : (cs ls : List (List ℕ)) (ln k p : ℕ) {a b c : ℕ} → fewestRows ≤ k → BeginA3 cs → 1 ≤ length cs → onlyConditions (ln + length cs) ls ≡ refused a b c → behindShip (cs ++ ls) ln k p ≡ refused a b c
 unfolding BeginA3
 conditions-behind [] ls ln k p f B s e = absurd (omega arith)
 conditions-behind (x ∷ cs) ls ln k p f B s e =

@@ -31,7 +31,7 @@ module _ (s : Ship) (vs : List Row) where
   pub reports-sized : (cs : List (List ℕ)) (ln : ℕ) → Sized reportLength (map reportOf (answersFrom s vs ln cs))
   unfolding answersFrom Sized
   reports-sized [] ln = tt
-  reports-sized (l ∷ ls) ln = (answer-length ln l, reports-sized ls (ln + 1))
+  reports-sized (l ∷ ls) ln = (answer-length ln l, reports-sized ls _)
 
 module _ (b : Booklet) where
   abbrev reports : List (List ℕ)

@@ -84,15 +84,15 @@ module _ (most : ℕ) (t buffer : List ℕ) where
 pub first-number : (s : Ship) (vs : List Row) (cs : List (List ℕ)) (ln : ℕ) → firstNumber (answersFrom s vs ln cs) ≤ 8
 unfolding answersFrom firstNumber
 first-number s vs [] ln = omega arith
-first-number s vs (l ∷ ls) ln = go (answerAt s vs ln l) refl (first-number s vs ls (ln + 1))
+first-number s vs (l ∷ ls) ln = go _ (answerAt s vs ln l) refl (λ k. first-number s vs ls k)
   where
     by : (n m : ℕ) (b : Bool) → n ≤ 8 → m ≤ 8 → elim b [ true ↦ m | false ↦ n ] ≤ 8
     by n m true p q = q
     by n m false p q = p
 
-    go : (a : Ans Judgement) → answerAt s vs ln l ≡ a → firstNumber (answersFrom s vs (ln + 1) ls) ≤ 8 → firstNumber (a ∷ answersFrom s vs (ln + 1) ls) ≤ 8
-    go (refused n m o) e q = by n _ (eqb n 0) (answer-refusal s vs ln l .holds n m o e .1) q
-    go (got j) e q = q
+    go : (k : ℕ) (a : Ans Judgement) → answerAt s vs ln l ≡ a → ((k : ℕ) → firstNumber (answersFrom s vs k ls) ≤ 8) → firstNumber (a ∷ answersFrom s vs k ls) ≤ 8
+    go k (refused n m o) e q = by n _ (eqb n 0) (answer-refusal s vs ln l .holds n m o e .1) (q k)
+    go k (got j) e q = q k
 
 -- The number is 9 exactly when the buffer is shorter than `room`.
 pub nine-iff-no-room : (most : ℕ) (t buffer : List ℕ) → (number most t buffer ≡ 9) ↔ (length buffer < room most t)

@@ -24,7 +24,7 @@ pub record Gives (most : ℕ) (t buffer : List ℕ) (n bytes : ℕ) (end : List 
 pub answers-length : (s : Ship) (vs : List Row) (cs : List (List ℕ)) (ln : ℕ) → length (answersFrom s vs ln cs) ≡ length cs
 unfolding answersFrom
 answers-length s vs [] ln = refl
-answers-length s vs (l ∷ ls) ln = ap suc (answers-length s vs ls (ln + 1))
+answers-length s vs (l ∷ ls) ln = ap suc (answers-length s vs ls _)
 
 -- A refusal that is not 9 has one report line.
 one-line : (n l o : ℕ) → (n ≡ 9 → ⊥) → sent (refused n l o) ≡ reportOf (refused n l o) ∷ []

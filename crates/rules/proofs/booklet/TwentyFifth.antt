@@ -5,15 +5,14 @@ use mathlib.Core.List.{List, [], _∷_, _++_}
 use Prim.Native.Nat.{ℕ, _+_, _-_, _≤_}
 use native.Mathlib.Omega.{arith}
 use lib.ListN.{length, getD}
-use borrow.Author.Tests.{le-leb, lt-ltb, le-ltb}
+use borrow.Author.Tests.{lt-ltb, le-ltb}
 use Rattle.rules.specs.Text.{text, Lines}
 use Rattle.rules.specs.Blocks.{conditionTag}
 use Rattle.rules.specs.Layout.{mostConditions}
 use Rattle.rules.specs.Outcome.{refused}
 use Rattle.rules.specs.Booklet.{isCondition, conditionLines, counted, readWhole}
-use Rattle.rules.proofs.layout.Lines.{lines-got}
-use Rattle.rules.proofs.walk.Outcome.{bind-got, bind-refused, test-got, test-refused}
-use Rattle.rules.proofs.booklet.Counted.{lines-a3, lines-other, counted-a3, counted-other, countedLines-steps, begins}
+use Rattle.rules.proofs.walk.Outcome.{bind-refused, test-got, test-refused}
+use Rattle.rules.proofs.booklet.Counted.{lines-a3, lines-other, counted-a3, counted-other, lines-counted, begins}
 
 counted-over : (front : List (List ℕ)) (l : List ℕ) (later : List (List ℕ)) (ln ln′ n : ℕ) → conditionLines front ≡ n → isCondition l ≡ true → ln′ ≡ ln + length front → counted ln n (front ++ (l ∷ later)) ≡ refused 5 ln′ 0
 unfolding conditionLines
@@ -28,4 +27,4 @@ pub twenty-fifth : (most : ℕ) (front : List (List ℕ)) (l : List ℕ) (later 
     → readWhole most (text (front ++ (l ∷ later))) ≡ refused 5 (1 + length front) 0
 unfolding readWhole
 twenty-fifth most front l later B m c a =
-    bind-refused _ (countedLines-steps most (text (front ++ (l ∷ later))) ∙ test-got _ _ _ _ (le-leb _ _ m) ∙ bind-got _ (lines-got (front ++ (l ∷ later)) 1 B) ∙ bind-refused _ (counted-over front l later 1 (1 + length front) mostConditions c (begins l a) refl))
+    bind-refused _ (lines-counted most (front ++ (l ∷ later)) B m ∙ bind-refused _ (counted-over front l later 1 (1 + length front) mostConditions c (begins l a) refl))

@@ -5,16 +5,15 @@ use mathlib.Core.List.{List}
 use Prim.Native.Nat.{ℕ, _≤_}
 use native.Mathlib.Omega.{arith}
 use lib.ListN.{length}
-use borrow.Author.Tests.{leb-true, le-leb}
+use borrow.Author.Tests.{leb-true}
 use Rattle.rules.specs.Text.{text}
 use Rattle.rules.specs.Layout.{mostConditions}
 use Rattle.rules.specs.Outcome.{Ans, refused, got}
-use Rattle.rules.specs.Walk.{linesFrom}
 use Rattle.rules.specs.Booklet.{conditionLines, countedLines, Booklet, bookFrames, readWhole}
 use Rattle.rules.specs.Apart.{linesOf, spellBooklet, WholeLimits, LinesWithin, AllowedWhole}
-use Rattle.rules.proofs.layout.Lines.{lines-sound, lines-got}
-use Rattle.rules.proofs.walk.Outcome.{refused-got, bind-inv, bind-first, test-inv, bind-got, test-got}
-use Rattle.rules.proofs.booklet.Counted.{countedLines-steps, counted-sound, counted-got, lines-lead}
+use Rattle.rules.proofs.layout.Lines.{lines-sound}
+use Rattle.rules.proofs.walk.Outcome.{refused-got, bind-inv, bind-first, test-inv, bind-got}
+use Rattle.rules.proofs.booklet.Counted.{countedLines-steps, lines-counted, counted-sound, counted-got, lines-lead}
 use Rattle.rules.proofs.booklet.Frames.{framed, frames-sound, frames-got, Lines-booklet}
 use Rattle.rules.proofs.booklet.Refusals.{countedLines-refusal, readWhole-refusal}
 
@@ -29,8 +28,7 @@ countedLines-sound most t ls e =
     rw (← q) (record { long = leb-true (length t) most (a .0); spells = L .0; lines = L .1; atMost = counted-sound (b .0) 1 mostConditions (u .0) (u .1) })
 
 pub countedLines-got : (most : ℕ) (t : List ℕ) (ls : List (List ℕ)) → LinesWithin most t ls → countedLines most t ≡ got ls
-countedLines-got most t ls C =
-    countedLines-steps most t ∙ test-got _ _ _ _ (le-leb _ _ (C .long)) ∙ bind-got _ (ap (linesFrom 1) (sym (C .spells)) ∙ lines-got ls 1 (C .lines)) ∙ bind-got _ (counted-got ls 1 mostConditions (C .atMost))
+countedLines-got most t ls C = ap (countedLines most) (sym (C .spells)) ∙ lines-counted most ls (C .lines) (rw (C .spells) (C .long)) ∙ bind-got _ (counted-got ls 1 mostConditions (C .atMost))
 
 -- Then it is read by its blocks.
 pub read-blocks : (most : ℕ) (t : List ℕ) (ls : List (List ℕ)) → LinesWithin most t ls → readWhole most t ≡ bookFrames ls

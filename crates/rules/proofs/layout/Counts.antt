@@ -1,8 +1,9 @@
--- How many there may be, restated from 01 and tried at each edge: rows, depths, entries, bytes, characters; and the greatest KG.
+-- How many there may be, restated from 01 and request 3 and tried at each edge: rows, depths, entries, bytes, characters, condition lines; and the greatest KG.
 use mathlib.Core.Path.{_≡_, refl}
 use mathlib.Core.Bool.{true}
-use mathlib.Core.List.{List}
-use Prim.Native.Nat.{ℕ, _≤_, _<_}
+use mathlib.Core.List.{List, _∷_}
+use Prim.Native.Nat.{ℕ, _+_, min, _≤_, _<_}
+use native.Mathlib.Omega.{arith}
 use lib.Dec.{eqb}
 use lib.ListN.{length}
 use borrow.Author.Tests.{le-leb, lt-leb}
@@ -11,7 +12,9 @@ use Rattle.rules.specs.Blocks.{Load, size, entry}
 use Rattle.rules.specs.Layout.{Reading}
 use Rattle.rules.specs.Outcome.{refused, got, test, _>>=_, _>>_}
 use Rattle.rules.specs.Walk.{Head, load, nested, fixed, begun, loadAt, entries, inside, conditionIn, rowIn, aRow, aCondition, tableRow, theCondition, found, linesFrom, readFrames, read}
+use Rattle.rules.specs.Booklet.{counted, countedLines}
 use Rattle.rules.specs.Loading.{inTable, displacement, entriesOf, correctedKG, weighed}
+use Rattle.rules.specs.Answer.{limited}
 
 -- '2 to 40 A2': 'A3 before two rows; a 41st row' are refused with 4.
 module _ (ln p : ℕ) (h : Head) where
@@ -62,6 +65,25 @@ characters-180001 t l = rw (lt-leb (length t) 180_000 l)
 pub characters-180000 : (t : List ℕ) → length t ≤ 180_000 → read t ≡ (linesFrom 1 t >>= readFrames)
 unfolding read test _>>=_ _>>_
 characters-180000 t l = rw (le-leb (length t) 180_000 l)
+
+-- So of a booklet, whatever limit is asked for.
+pub booklet-180001 : (most : ℕ) (t : List ℕ) → 180_000 < length t → countedLines (limited most) t ≡ refused 1 0 0
+unfolding countedLines test _>>=_ _>>_
+booklet-180001 most t l = rw (lt-leb (length t) (min most 180_000) (omega arith))
+
+-- 'Up to 24 condition lines', 'a 25th condition line gives 5 there' (request 3): so many are left at first, each takes one, and with none left 5 is sent back.
+pub conditions-24 : (most : ℕ) (t : List ℕ) → length t ≤ most → countedLines most t ≡ (linesFrom 1 t >>= λ ls. counted 1 24 ls >>= λ u. got ls)
+unfolding countedLines test _>>=_ _>>_
+conditions-24 most t l = rw (le-leb (length t) most l)
+
+module _ (ln : ℕ) (left : List ℕ) (ls : List (List ℕ)) where
+  pub condition-24th : counted ln 1 ((0xA3 ∷ left) ∷ ls) ≡ counted (ln + 1) 0 ls
+  unfolding counted test _>>=_ _>>_
+  condition-24th = refl
+
+  pub condition-25th : counted ln 0 ((0xA3 ∷ left) ∷ ls) ≡ refused 5 ln 0
+  unfolding counted test _>>=_ _>>_
+  condition-25th = refl
 
 -- 'Corrected KG above 60,000.'
 module _ (r : Reading) (floats : inTable (r .rows) (displacement (entriesOf r)) ≡ true) where

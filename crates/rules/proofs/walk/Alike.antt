@@ -20,6 +20,14 @@ unfolding _>>=_
 like-then (refused n l o) f g h = bothRefused
 like-then (got x) f g h = h x
 
+pub like-same : {A : Type 0} {R : A → A → Type 0} (a : Ans A) → ((x : A) → R x x) → Like R a a
+like-same (refused n l o) h = bothRefused
+like-same (got x) h = bothGot (h x)
+
+pub like-weaker : {A : Type 0} {R S : A → A → Type 0} {a b : Ans A} → Like R a b → ((x y : A) → R x y → S x y) → Like S a b
+like-weaker bothRefused h = bothRefused
+like-weaker (bothGot {a} {b} q) h = bothGot (h a b q)
+
 -- Both refused, whatever was to follow.
 abbrev pub Never : {A : Type 0} → A → A → Type 0
 Never x y = ⊥

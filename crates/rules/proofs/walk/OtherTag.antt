@@ -13,14 +13,14 @@ use Rattle.rules.specs.Layout.{Entries, leaf, group, Condition, Reading,
 use Rattle.rules.specs.Outcome.{refused, got, test, _>>=_, _>>_}
 use Rattle.rules.specs.Walk.{Head, header, tagOf, Block, one, nest, begun, blockAt, step, entries, chosen, weatherAt, loadAt, inside, conditionIn, fixedIn, frameOf, Found, tableRow, theCondition, found, frameAt, closed, Tail, after, tail, shipFrame, readFrames, read}
 use Rattle.rules.specs.Tags.{OtherTag, tagHere, afterBlock, insideGroup, OtherTagLines, asFrame, inCondition, afterLine}
-use Rattle.rules.proofs.walk.Outcome.{bind-got, bind-refused, test-got, test-refused}
+use Rattle.rules.proofs.walk.Outcome.{bind-got, test-got, test-refused}
 use Rattle.rules.proofs.walk.Alike.{Like, bothRefused, bothGot, like-bind, like-then, Never, like-never}
 use Rattle.rules.proofs.walk.Heads.{length-block, full-block, header-got}
 use Rattle.rules.proofs.walk.FrameExits.{weather-tag}
 use Rattle.rules.proofs.walk.Frames.{frame-got}
 use Rattle.rules.proofs.walk.WholeText.{read-lines}
 use Rattle.rules.proofs.walk.Fuel.{entries-block}
-use Rattle.rules.proofs.layout.OtherTag.{same-length, both-full, text-long, as-many-characters, Lines-alike}
+use Rattle.rules.proofs.layout.OtherTag.{same-length, both-full, as-many-characters, Lines-alike}
 
 -- ---- a head
 abbrev pub withTag : ℕ → Head → Head
@@ -134,7 +134,7 @@ module _ {a b : ℕ} {R : Entries → Entries → Type 0} {S : Condition → Con
     unfolding chosen
     no-weather body = weather-tag ln groupTag body refl
 
-    inside-alike : {body body′ : List ℕ} → OtherTag a b body body′ → length body < 65_536 → Like S (inside ln body) (inside ln body′)
+    pub inside-alike : {body body′ : List ℕ} → OtherTag a b body body′ → length body < 65_536 → Like S (inside ln body) (inside ln body′)
     inside-alike (tagHere left) l = A .asWeather ln left
     inside-alike (afterBlock t first {rest} {rest′} m) l =
         let L = length-block t first rest in
@@ -189,11 +189,11 @@ module _ {a b : ℕ} {R : Entries → Entries → Type 0} {S : Condition → Con
       go h c (theCondition d) = like-never _ _ (c (ln + 1))
 
   -- A condition where the ship is owed.
-  no-ship : (body : List ℕ) (ls : List (List ℕ)) → length body < 65_536 → readFrames (block conditionTag body ∷ ls) ≡ refused 4 1 0
-  unfolding readFrames shipFrame
-  no-ship body ls l = bind-refused _ (bind-got _ (frame-got 1 conditionTag body l) ∙ test-refused 4 1 0 _ refl)
+  pub no-ship : (body : List ℕ) → length body < 65_536 → shipFrame 1 (block conditionTag body) ≡ refused 4 1 0
+  unfolding shipFrame
+  no-ship body l = bind-got _ (frame-got 1 conditionTag body l) ∙ test-refused 4 1 0 _ refl
 
-  no-hull : (left : List ℕ) → Like Never (shipFrame 1 (a ∷ left)) (shipFrame 1 (b ∷ left))
+  pub no-hull : (left : List ℕ) → Like Never (shipFrame 1 (a ∷ left)) (shipFrame 1 (b ∷ left))
   unfolding shipFrame
   no-hull left =
       like-bind _ _ (head-alike a b 1 0 left) (λ h g e.
@@ -204,7 +204,7 @@ module _ {a b : ℕ} {R : Entries → Entries → Type 0} {S : Condition → Con
   frames-alike (asFrame left later) = like-never _ _ (no-hull left)
   frames-alike (inCondition {body} {body′} later s m) =
       let e = same-length m in
-      rw (no-ship body later s, no-ship body′ later (omega arith)) bothRefused
+      rw (no-ship body s, no-ship body′ (omega arith)) (like-never _ _ bothRefused)
   frames-alike (afterLine line m) = like-then (shipFrame 1 line) _ _ (λ v. like-bind _ _ (tail-alike m 2 0 0) (λ x y q. bothGot (refl, q .0, q .1)))
 
   -- ---- a whole text

@@ -23,10 +23,10 @@ use Rattle.rules.proofs.walk.WholeText.{sound, lines-of-reading}
 use Rattle.rules.proofs.walk.OtherTag.{withTag, head-alike, TestedAlike, inside-head, read-alike}
 
 -- The one load with a tank of the other made a cargo tank; and so two conditions.
-abbrev Made : Entries → Entries → Type 0
+abbrev pub Made : Entries → Entries → Type 0
 Made F G = (t : Tank) × MadeCargo t F G
 
-abbrev MadeIn : Condition → Condition → Type 0
+abbrev pub MadeIn : Condition → Condition → Type 0
 MadeIn c d = (c .weather ≡ d .weather) × Made (c .load) (d .load)
 
 -- 4, 3, 5 and 6 of a tank, whichever its kind.
@@ -61,7 +61,7 @@ no-weather ln s =
     rw (inside-head ln 0xC3 s, inside-head ln 0xC5 s)
     (like-bind _ _ (head-alike 0xC3 0xC5 ln 3 s) (λ h g e. rw (e .1, e .2, weather-tag ln 0xC3 (e .0 .body) refl, weather-tag ln 0xC5 (e .0 .body) refl) (like-never _ _ bothRefused)))
 
-tanks-alike : TestedAlike 0xC3 0xC5 Made MadeIn
+pub tanks-alike : TestedAlike 0xC3 0xC5 Made MadeIn
 unfolding frameOf
 tanks-alike = record {
   fits = omega arith;

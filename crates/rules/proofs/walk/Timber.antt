@@ -21,7 +21,7 @@ use Rattle.rules.proofs.walk.WholeText.{sound, lines-of-reading}
 use Rattle.rules.proofs.walk.OtherTag.{head-alike, TestedAlike, inside-head, read-alike}
 
 -- The one condition in the Code's set, and the other the same in timber's.
-abbrev InTimber : Condition → Condition → Type 0
+abbrev pub InTimber : Condition → Condition → Type 0
 InTimber c d = (c .weather .set ≡ code) × (d ≡ conditionBy timber c)
 
 -- 4, 3 and 6 of the weather, whichever the set.
@@ -49,7 +49,7 @@ unfolding blockAt tagOf _>>=_
 no-entry ln d n at s =
     rw (entries-some ln d n at (0xC1 ∷ s) (omega arith), entries-some ln d n at (0xC6 ∷ s) (omega arith)) (like-bind _ _ (head-alike 0xC1 0xC6 ln at s) (λ h g e. rw (e .1, e .2) bothRefused))
 
-weathers-alike : TestedAlike 0xC1 0xC6 Never InTimber
+pub weathers-alike : TestedAlike 0xC1 0xC6 Never InTimber
 unfolding frameOf
 weathers-alike = record {
   fits = omega arith;

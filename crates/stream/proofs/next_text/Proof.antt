@@ -41,6 +41,18 @@ same-length c = search needs
 returns-4 : tie.Need-returns-4
 returns-4 c = search needs
 
+slice-aggregate-u32-at-2 : tie.Need-slice-aggregate-u32-at-2
+slice-aggregate-u32-at-2 c = search needs
+
+u32-at-requires-2 : tie.Need-u32-at-requires-2
+u32-at-requires-2 c κs = search needs
+
+slice-aggregate-u32-at-3 : tie.Need-slice-aggregate-u32-at-3
+slice-aggregate-u32-at-3 c = search needs
+
+u32-at-requires-3 : tie.Need-u32-at-requires-3
+u32-at-requires-3 c κs = search needs
+
 same-length-2 : tie.Need-same-length-2
 same-length-2 c = search needs
 
@@ -63,5 +75,9 @@ next-text-spec =
     read-full-requires-2
     same-length
     returns-4
+    slice-aggregate-u32-at-2
+    u32-at-requires-2
+    slice-aggregate-u32-at-3
+    u32-at-requires-3
     same-length-2
     returns-5)
