@@ -88,12 +88,12 @@ module _ {s : Ship} {vs : List Row} {ln : ℕ} {l r : List ℕ} (q : Reports s v
 -- ---- a line, and the same in the timber set
 module _ {s : Ship} {vs : List Row} {ln ln′ : ℕ} {l l′ r r′ : List ℕ} (q : Reports s vs ln l r) (q′ : Reports s vs ln′ l′ r′)
     (alike : (n m o : ℕ) → conditionAt ln l ≡ refused n m o → conditionAt ln′ l′ ≡ refused n ln′ o)
-    (in-timber : (c : Condition) → conditionAt ln l ≡ got c → (c .weather .set ≡ code) × (conditionAt ln′ l′ ≡ got (conditionBy timber c))) where
+    (in-timber : (c : Condition) → conditionAt ln l ≡ got c → (c .weather .set ≡ code) × (conditionAt ln l′ ≡ got (conditionBy timber c))) where
   abbrev by : AllowedLine l → Reading
   by c = record { ship = s; rows = vs; condition = c .0 }
 
   abbrev timbered : (c : AllowedLine l) → AllowedLine l′
-  timbered c = let x = condition-sound ln′ l′ (conditionBy timber (c .0)) (q′ .tag) (q′ .bytes) (in-timber (c .0) (line-got ln c) .1) in (conditionBy timber (c .0), x .0, x .1)
+  timbered c = let x = condition-sound ln l′ (conditionBy timber (c .0)) (q′ .tag) (q′ .bytes) (in-timber (c .0) (line-got ln c) .1) in (conditionBy timber (c .0), x .0, x .1)
 
   pub same-number : 1 ≤ ln → (numberIn r ≡ numberIn r′) × ((¬ HasNumber 0 r) → SameButLine r r′)
   same-number h =

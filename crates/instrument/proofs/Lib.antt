@@ -11,7 +11,6 @@ pub mod Replies
 pub mod Placed
 pub mod Faults
 pub mod FirstReport
-pub mod LineTags
 pub mod TwoLines
 pub mod EitherSet
 pub mod Within

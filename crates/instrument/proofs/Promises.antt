@@ -12,14 +12,14 @@ use lib.ListN.{length, drop, getD}
 use denote.Ref.{RefT, now}
 use Rattle.rules.specs.Rounding.{ceil}
 use Rattle.rules.specs.Numbers.{Bytes, digits, twos}
-use Rattle.rules.specs.Text.{hex}
+use Rattle.rules.specs.Text.{hex, text, Lines}
 use Rattle.rules.specs.Blocks.{conditionTag, timber, Tank}
 use Rattle.rules.specs.Layout.{mostCharacters}
 use Rattle.rules.specs.Outcome.{refused, got}
 use Rattle.rules.specs.Loading.{mass, moment, freeSurface, weighed}
 use Rattle.rules.specs.Leaves.{sumLeaves, SameSums}
-use Rattle.rules.specs.Cargo.{MadeCargo}
-use Rattle.rules.specs.Timber.{UnusedSlot, EasedSlot}
+use Rattle.rules.specs.Cargo.{MadeCargo, RetaggedLines}
+use Rattle.rules.specs.Timber.{TimberLines, UnusedSlot, EasedSlot}
 use Rattle.rules.specs.Curve.{loaded, y}
 use Rattle.rules.specs.Criteria.{angleOfGreatest}
 use Rattle.rules.specs.Report.{judgement, noJudgement, report, reportLength}
@@ -29,6 +29,8 @@ use Rattle.rules.specs.Booklet.{readWhole}
 use Rattle.rules.specs.Apart.{spellBooklet, AllowedWhole, AllowedLine, lineAt, readingAt, alone, respelt}
 use Rattle.rules.specs.Answer.{answered, numberOf, reportOf, inLine, number, bytesSent, written, limited}
 use Rattle.rules.specs.Answer as answers
+use Rattle.rules.proofs.walk.Retagged.{tanks-alike}
+use Rattle.rules.proofs.walk.Timber.{weathers-alike}
 use Rattle.rules.proofs.booklet.Sent.{under-one}
 use Rattle.rules.proofs.booklet.Room as rooms
 use Rattle.rules.proofs.Booklets as booklets
@@ -228,8 +230,35 @@ two-such-texts =
     let x′ = ones.of-reading regrouped asGroup (reads-as .1) in
     (x .0, x′ .0, x .1, x′ .1, rw (x .2, x′ .2) same-sums, two-texts)
 
--- ---- a condition line with one tag made another
--- Two texts that are allowed as a whole, each with room, with one ship and the same rows; condition k of the first and k′ of the second.
+-- ---- two texts that differ in one tag alone
+-- Two texts of lines within 180,000 characters, each with room.
+module _ (ls ls′ : List (List ℕ)) (L : Lines ls) (short : length (text ls) ≤ mostCharacters)
+    (before before′ : List ℕ) (n n′ : ℕ) (after after′ : List ℕ) (run : Judges (text ls) before n after) (run′ : Judges (text ls′) before′ n′ after′)
+    (enough : answers.room mostCharacters (text ls) ≤ length before) (enough′ : answers.room mostCharacters (text ls′) ≤ length before′) where
+  -- A block that begins with C3 in the first, well or ill, as a frame or in a condition that fills its line, begins with C5 in the second.
+  module _ (retagged : RetaggedLines ls ls′) where
+    -- Where either is refused for the whole, both have the same number and the same report, and so the same place.
+    pub tested-as-tank-whole : RefusedWhole (text ls) before n after ⊎ RefusedWhole (text ls′) before′ n′ after′ → (n ≡ n′) × (reportIn 0 after ≡ reportIn 0 after′)
+    tested-as-tank-whole = tags.whole-alike tanks-alike retagged L short (ran (text ls) before n after run enough) (ran (text ls′) before′ n′ after′ run′ enough′)
+
+    -- Otherwise both have one ship, the same rows and as many conditions. But for one condition, which has that block, every report is the same.
+    pub tank-in-one-line : (a : AllowedWhole mostCharacters (text ls)) → (a′ : AllowedWhole mostCharacters (text ls′)) × (k : ℕ) × OtherTagIn 0xC3 0xC5 (a .0) k (a′ .0) k × (length (a .0 .conditions) ≡ length (a′ .0 .conditions))
+        × ((i : ℕ) → i ≢ k → i < length (a .0 .conditions) → reportIn i after ≡ reportIn i after′)
+    tank-in-one-line = tags.one-line tanks-alike retagged L short (ran (text ls) before n after run enough) (ran (text ls′) before′ n′ after′ run′ enough′)
+
+  -- A block that begins with C1 in the first, well or ill, as a frame or in a condition that fills its line, begins with C6 in the second.
+  module _ (other : TimberLines ls ls′) where
+    -- Where either is refused for the whole, both have the same number and the same report, and so the same place.
+    pub tested-as-weather-whole : RefusedWhole (text ls) before n after ⊎ RefusedWhole (text ls′) before′ n′ after′ → (n ≡ n′) × (reportIn 0 after ≡ reportIn 0 after′)
+    tested-as-weather-whole = tags.whole-alike weathers-alike other L short (ran (text ls) before n after run enough) (ran (text ls′) before′ n′ after′ run′ enough′)
+
+    -- Otherwise both have one ship, the same rows and as many conditions. But for one condition, which has that block, every report is the same.
+    pub weather-in-one-line : (a : AllowedWhole mostCharacters (text ls)) → (a′ : AllowedWhole mostCharacters (text ls′)) × (k : ℕ) × OtherTagIn 0xC1 0xC6 (a .0) k (a′ .0) k × (length (a .0 .conditions) ≡ length (a′ .0 .conditions))
+        × ((i : ℕ) → i ≢ k → i < length (a .0 .conditions) → reportIn i after ≡ reportIn i after′)
+    weather-in-one-line = tags.one-line weathers-alike other L short (ran (text ls) before n after run enough) (ran (text ls′) before′ n′ after′ run′ enough′)
+
+-- ---- two condition lines that differ in one tag alone
+-- Of two texts that are allowed as a whole, each with room, with one ship and the same rows: condition k of the first and k′ of the second, wherever they stand and whatever the others hold.
 module _ (text text′ before before′ : List ℕ) (n n′ : ℕ) (after after′ : List ℕ) (run : Judges text before n after) (run′ : Judges text′ before′ n′ after′)
     (enough : answers.room mostCharacters text ≤ length before) (enough′ : answers.room mostCharacters text′ ≤ length before′)
     (a : AllowedWhole mostCharacters text) (a′ : AllowedWhole mostCharacters text′) (k k′ : ℕ) where

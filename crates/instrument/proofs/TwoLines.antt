@@ -55,7 +55,7 @@ module _ {s s′ : Ship} {vs vs′ : List Row} {ln ln′ : ℕ} {l l′ r r′ :
   by-sums c c′ same = of-reading q (c .0) (line-got ln c) ∙ ap reportOf (judged-by-sums _ _ same) ∙ sym (of-reading q′ (c′ .0) (line-got ln′ c′))
 
   -- ---- a tank made a cargo tank
-  module _ (ships : s ≡ s′) (rows : vs ≡ vs′) (made : (c : Condition) → conditionAt ln l ≡ got c → (t : Tank) × (G : Entries) × MadeCargo t (c .load) G × (conditionAt ln′ l′ ≡ got (record { weather = c .weather; load = G }))) where
+  module _ (ships : s ≡ s′) (rows : vs ≡ vs′) (made : (c : Condition) → conditionAt ln l ≡ got c → (t : Tank) × (G : Entries) × MadeCargo t (c .load) G × (conditionAt ln l′ ≡ got (record { weather = c .weather; load = G }))) where
     -- From 98 % on the figures are those of the first's sums with the whole moment besides.
     full-figures : (t : Tank) (F G : Entries) → MadeCargo t F G → nominallyFull ≤ t .fill → HasNumber 0 r′ → (c′ : AllowedLine l′) → c′ .0 .load ≡ G
         → (figureIn 0 r′ ≡ hex (digits 8 (sumLeaves mass F)))
@@ -73,7 +73,7 @@ module _ {s s′ : Ship} {vs vs′ : List Row} {ln ln′ : ℕ} {l l′ r r′ :
         × (figureIn 1 r′ ≡ hex (digits 8 (ceil (sumLeaves moment (c .0 .load) + sumLeaves freeSurface (c .0 .load) + 1000 * t .density * t .inertia) (sumLeaves mass (c .0 .load))))))
     never-forgiven c =
         let m = made (c .0) (line-got ln c) in
-        let x = condition-sound ln′ l′ _ (q′ .tag) (q′ .bytes) (m .3) in
+        let x = condition-sound ln l′ _ (q′ .tag) (q′ .bytes) (m .3) in
         let c′ : AllowedLine l′ = (record { weather = c .0 .weather; load = m .1 }, x .0, x .1) in (
           m .0,
           c′,
