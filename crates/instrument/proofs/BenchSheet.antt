@@ -1,21 +1,24 @@
 -- The worked texts of one condition through a run: what their reading, their number and their report come to, by computation.
 use mathlib.Core.Path.{_≡_, refl, ap, sym, _∙_}
 use mathlib.Core.Bool.{true}
-use mathlib.Core.List.{List, []}
-use Prim.Native.Nat.{ℕ, _≤_}
+use mathlib.Core.List.{List, [], _∷_}
+use Prim.Native.Nat.{ℕ, _*_, _≤_}
 use native.Mathlib.Omega.{arith}
 use lib.ListN.{length}
 use Rattle.rules.specs.Layout.{mostCharacters}
 use Rattle.rules.specs.Outcome.{refused}
 use Rattle.rules.specs.Report.{report, reportLength}
 use Rattle.rules.specs.Booklet.{readWhole}
-use Rattle.rules.specs.Answer.{answered, numberOf, reportOf, taken, number, written, room}
+use Rattle.rules.specs.Answer.{answered, numberOf, reportOf, taken, firstNumber, numberFor, sent, over, number, written, room}
 use Rattle.rules.proofs.answer.Steps.{report-refused}
-use Rattle.rules.proofs.bench.Bench.{with, P1}
+use Rattle.rules.proofs.booklet.Room.{with-room}
+use Rattle.rules.proofs.bench.Cases.{lines, refusal}
+use Rattle.rules.proofs.bench.Bench.{ship, row1, row2, with, P1, P1-output}
 use Rattle.rules.proofs.bench.CargoTank.{tanker}
 use Rattle.rules.proofs.bench.TimberDeck.{tender, coaster}
 use Rattle.instrument.specs.Reported.{reportIn}
 use Rattle.instrument.proofs.Replies.{whole-sent}
+use Rattle.instrument.proofs.Within.{number-taken, written-taken}
 use Rattle.instrument.proofs.OfOne.{isOne, one-read, room-one, sent-one}
 
 pub one-sent : (t : List ℕ) {m : ℕ} {r : List ℕ} → isOne (readWhole mostCharacters t) ≡ true → numberOf (answered t) ≡ m → reportOf (answered t) ≡ r
@@ -65,3 +68,20 @@ unfolding report
 empty-sent e f before N W h =
     let s = whole-sent (record { numbered = N; left = W; enough = omega (arith, empty-whole .1) }) 5 0 0 (empty-whole .0) in
     (s .0, s .1 ∙ sym (ap reportOf e ∙ report-refused 5 0 0) ∙ f)
+
+-- ---- a booklet of three
+-- P1's ship and rows, its condition, that of P13 and that of P10.
+abbrev pub three : List ℕ
+three = lines (ship ∷ row1 ∷ row2 ∷ "A30018C1000C000009C40FA002BC01F400C8C2000600155CC00FA0" ∷ "A30018C1000C000009C40FA002BC01F400C8C2000600155CBF0FA0" ∷ "A30018C1000C000009C40FA002BC01F400C8C2000700155CC00FA0" ∷ [])
+
+abbrev pub three-reports : List (List ℕ)
+three-reports = P1-output ∷ refusal "D100650700000000" ∷ refusal "D100650200060012" ∷ []
+
+three-read : (numberFor (readWhole mostCharacters three) ≡ 7) × (sent (readWhole mostCharacters three) ≡ three-reports) × (room mostCharacters three ≡ 3 * reportLength)
+unfolding taken readWhole firstNumber sent room
+three-read = (refl, refl, refl)
+
+pub three-sent : (before : List ℕ) {n : ℕ} {after : List ℕ} → n ≡ number mostCharacters three before → after ≡ written mostCharacters three before → 3 * reportLength ≤ length before → (n ≡ 7) × (after ≡ over three-reports before)
+three-sent before N W h =
+    let e = with-room mostCharacters three before (omega (arith, three-read .2)) in
+    (N ∙ number-taken three before mostCharacters ∙ ap numberFor e ∙ three-read .0, W ∙ written-taken three before mostCharacters ∙ ap (λ a. over (sent a) before) e ∙ ap (λ rs. over rs before) (three-read .1))

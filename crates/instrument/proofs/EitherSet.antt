@@ -95,6 +95,9 @@ module _ {s : Ship} {vs : List Row} {ln ln′ : ℕ} {l l′ r r′ : List ℕ} 
   abbrev timbered : (c : AllowedLine l) → AllowedLine l′
   timbered c = let x = condition-sound ln l′ (conditionBy timber (c .0)) (q′ .tag) (q′ .bytes) (in-timber (c .0) (line-got ln c) .1) in (conditionBy timber (c .0), x .0, x .1)
 
+  pub said-in-timber : (c : AllowedLine l) → (c .0 .weather .set ≡ code) × ((c′ : AllowedLine l′) × (c′ .0 ≡ conditionBy timber (c .0)))
+  said-in-timber c = (in-timber (c .0) (line-got ln c) .0, (timbered c, refl))
+
   pub same-number : 1 ≤ ln → (numberIn r ≡ numberIn r′) × ((¬ HasNumber 0 r) → SameButLine r r′)
   same-number h =
       by-line q (λ n o _ _ e. let e′ = alike n ln o e in (alike-number q q′ n o e e′, λ _. alike-but-line q q′ n o e e′ h)) (λ c.

@@ -9,14 +9,14 @@ use lib.Seq.{getD-set-same}
 use Rattle.rules.specs.Rounding.{ceil}
 use Rattle.rules.specs.Numbers.{digits}
 use Rattle.rules.specs.Text.{hex, text, Lines}
-use Rattle.rules.specs.Blocks.{Tank}
+use Rattle.rules.specs.Blocks.{Tank, code, timber}
 use Rattle.rules.specs.Layout.{Entries, Condition, mostCharacters}
 use Rattle.rules.specs.Outcome.{refused}
 use Rattle.rules.specs.Loading.{mass, moment, freeSurface}
 use Rattle.rules.specs.Leaves.{sumLeaves}
 use Rattle.rules.specs.Tags.{OtherTagLines}
 use Rattle.rules.specs.Cargo.{MadeCargo}
-use Rattle.rules.specs.Timber.{EasedSlot}
+use Rattle.rules.specs.Timber.{conditionBy, EasedSlot}
 use Rattle.rules.specs.Columns.{figureIn, verdictIn}
 use Rattle.rules.specs.Booklet.{conditionAt}
 use Rattle.rules.specs.Apart.{AllowedWhole, AllowedLine, lineAt, respelt}
@@ -102,6 +102,9 @@ module _ {t t′ before before′ : List ℕ} {n n′ : ℕ} {after after′ : L
   module _ (d : OtherTagIn 0xC1 0xC6 (a .0) k (a′ .0) k′) where
     pub weather-number : (numberIn (reportIn k after) ≡ numberIn (reportIn k′ after′)) × ((¬ HasNumber 0 (reportIn k after)) → SameButLine (reportIn k after) (reportIn k′ after′))
     weather-number = sets.same-number (here d) (there d) (to-second d weathers-alike) (in-timber (d .lines) ln) (omega arith)
+
+    pub weather-read : (c : AllowedLine (lineAt (a .0) k)) → (c .0 .weather .set ≡ code) × ((c′ : AllowedLine (lineAt (a′ .0) k′)) × (c′ .0 ≡ conditionBy timber (c .0)))
+    weather-read = sets.said-in-timber (here d) (there d) (to-second d weathers-alike) (in-timber (d .lines) ln)
 
     pub weather-figures : HasNumber 0 (reportIn k after) → ((i : ℕ) → i < 11 → i ≢ 6 → figureIn i (reportIn k after) ≡ figureIn i (reportIn k′ after′)) × (verdictIn 8 (reportIn k after) ≡ verdictIn 8 (reportIn k′ after′))
     weather-figures z = sets.either-figures (here d) (there d) (to-second d weathers-alike) (in-timber (d .lines) ln) z

@@ -81,7 +81,7 @@ behind-at [] cs k i e = let z : i ≡ k = omega arith in rw z
 behind-at (v ∷ vs) cs k zero e = absurd (omega arith)
 behind-at (v ∷ vs) cs k (suc i) e = behind-at vs cs k i (omega arith)
 
-pub line-placed : {t : List ℕ} (a : AllowedWhole mostCharacters t) (k : ℕ) → k < length (a .0 .conditions) → (n o : ℕ) → 2 ≤ n → n ≤ 6 → o < length (lineAt (a .0) k) → Placed t n (lineOf (a .0) k) o
+line-placed : {t : List ℕ} (a : AllowedWhole mostCharacters t) (k : ℕ) → k < length (a .0 .conditions) → (n o : ℕ) → 2 ≤ n → n ≤ 6 → o < length (lineAt (a .0) k) → Placed t n (lineOf (a .0) k) o
 unfolding spellBooklet
 line-placed a k h n o from to g =
     let b = a .0 in

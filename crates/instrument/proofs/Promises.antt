@@ -4,7 +4,7 @@
 use mathlib.Core.Path.{_≡_, refl, ap, sym, _∙_}
 use mathlib.Core.Bool.{true}
 use mathlib.Core.Logic.{_↔_, _≢_, _⊎_}
-use mathlib.Core.List.{List, [], _∷_}
+use mathlib.Core.List.{List, [], _∷_, _++_}
 use Prim.Native.Nat.{ℕ, _+_, _*_, _≤_, _<_}
 use native.Mathlib.Omega.{arith}
 use lib.IntN.{pos}
@@ -13,20 +13,22 @@ use denote.Ref.{RefT, now}
 use Rattle.rules.specs.Rounding.{ceil}
 use Rattle.rules.specs.Numbers.{Bytes, digits, twos}
 use Rattle.rules.specs.Text.{hex, text, Lines}
-use Rattle.rules.specs.Blocks.{conditionTag, timber, Tank}
+use Rattle.rules.specs.Text as spelled
+use Rattle.rules.specs.Blocks.{conditionTag, code, timber, Tank}
 use Rattle.rules.specs.Layout.{mostCharacters}
 use Rattle.rules.specs.Outcome.{refused, got}
 use Rattle.rules.specs.Loading.{mass, moment, freeSurface, weighed}
 use Rattle.rules.specs.Leaves.{sumLeaves, SameSums}
 use Rattle.rules.specs.Cargo.{MadeCargo, RetaggedLines}
-use Rattle.rules.specs.Timber.{TimberLines, UnusedSlot, EasedSlot}
+use Rattle.rules.specs.Timber.{TimberLines, conditionBy, UnusedSlot, EasedSlot}
 use Rattle.rules.specs.Curve.{loaded, y}
 use Rattle.rules.specs.Criteria.{angleOfGreatest}
-use Rattle.rules.specs.Report.{judgement, noJudgement, report, reportLength}
+use Rattle.rules.specs.Report.{judgement, noJudgement, concat, report, reportLength}
 use Rattle.rules.specs.Columns.{figureIn, verdictIn}
+use Rattle.rules.specs.Met.{Overruns}
 use Rattle.rules.specs.Places.{Placed}
-use Rattle.rules.specs.Booklet.{readWhole}
-use Rattle.rules.specs.Apart.{spellBooklet, AllowedWhole, AllowedLine, lineAt, readingAt, alone, respelt}
+use Rattle.rules.specs.Booklet.{conditionLines, readWhole}
+use Rattle.rules.specs.Apart.{spellBooklet, AllowedWhole, AllowedLine, LinesWithin, lineAt, readingAt, alone, respelt, Misplaced}
 use Rattle.rules.specs.Answer.{answered, numberOf, reportOf, inLine, number, bytesSent, written, limited}
 use Rattle.rules.specs.Answer as answers
 use Rattle.rules.proofs.walk.Retagged.{tanks-alike}
@@ -34,8 +36,8 @@ use Rattle.rules.proofs.walk.Timber.{weathers-alike}
 use Rattle.rules.proofs.booklet.Sent.{under-one}
 use Rattle.rules.proofs.booklet.Room as rooms
 use Rattle.rules.proofs.Booklets as booklets
-use Rattle.rules.proofs.bench.Cases.{Case, judges, refuses, gives}
-use Rattle.rules.proofs.bench.Bench.{P1, P1-output, bench, bench-holds}
+use Rattle.rules.proofs.bench.Cases.{refusal}
+use Rattle.rules.proofs.bench.Bench.{P1, P1-output, bench-holds}
 use Rattle.rules.proofs.bench.CargoTank.{tanker, cargo-output, planner-holds}
 use Rattle.rules.proofs.bench.TimberDeck.{tender, tender-output, tender-timber-output, coaster, coaster-output, coaster-timber-output, timbers-hold}
 use Rattle.rules.proofs.bench.Regrouped.{regrouped, asOne, asGroup, reads-as, same-sums, two-texts}
@@ -57,6 +59,7 @@ use Rattle.instrument.proofs.TwoLines.{by-sums}
 use Rattle.instrument.proofs.Apart as apart
 use Rattle.instrument.proofs.OneTag as tags
 use Rattle.instrument.proofs.OfOne as ones
+use Rattle.instrument.proofs.BenchSheet.{P10, P11, P13, three}
 use Rattle.instrument.proofs.BenchSheet as sheet
 use Rattle.instrument.proofs.Within as limits
 
@@ -117,6 +120,22 @@ module _ (text before : List ℕ) (n : ℕ) (after : List ℕ) (run : Judges tex
     -- The text is refused with 2 for the whole, at a line, exactly when it is lines, within 180,000 characters and with at most 24 that begin with A3, in which the ship's frame, a row's or a misplaced one runs past that line; then its one report has the line.
     pub two-iff-overrun : (l : ℕ) → ((readWhole mostCharacters text ≡ refused 2 l 0) ↔ WholeOverrunAt text l) × (WholeOverrunAt text l → (n ≡ 2) × (reportIn 0 after ≡ report 2 l 0 noJudgement))
     two-iff-overrun = faults.whole-overrun ran
+
+    -- A text of lines within 180,000 characters, at most 24 of which begin with A3, in which a line is the first that begins with another tag than is due there, is refused there for the whole: with 2 where its frame runs past it or it has one or two bytes, else with 4.
+    pub misplaced-refused : (ls : List (List ℕ)) → LinesWithin mostCharacters text ls → (l : ℕ) (bytes : List ℕ) → Misplaced ls l bytes
+        → (Overruns bytes → (n ≡ 2) × (reportIn 0 after ≡ report 2 l 0 noJudgement)) × ((¬ Overruns bytes) → (n ≡ 4) × (reportIn 0 after ≡ report 4 l 0 noJudgement))
+    misplaced-refused ls within l bytes m =
+        let x = booklets.misplaced mostCharacters text ls within l bytes m in (
+          λ v. let s = refusal-reported 2 l 0 (x .0 v) in (s .0, s .1),
+          λ v. let s = refusal-reported 4 l 0 (x .1 v) in (s .0, s .1),
+        )
+
+    -- A text of lines within 180,000 characters with a 25th that begins with A3 is refused with 5 there for the whole, whatever else it holds.
+    pub five-at-25th : (front later : List (List ℕ)) (l : List ℕ) → spelled.text (front ++ (l ∷ later)) ≡ text → Lines (front ++ (l ∷ later)) → length text ≤ mostCharacters → conditionLines front ≡ 24 → getD l 0 0 ≡ conditionTag
+        → (n ≡ 5) × (reportIn 0 after ≡ report 5 (1 + length front) 0 noJudgement)
+    five-at-25th front later l e L short c tag =
+        let s = refusal-reported 5 (1 + length front) 0 (rw e at (booklets.five-at-25th mostCharacters front l later L (omega (arith, ap length e)) c tag)) in
+        (s .0, s .1)
 
     -- ---- the conditions of a text that is allowed as a whole
     module _ (a : AllowedWhole mostCharacters text) where
@@ -290,6 +309,10 @@ module _ (text text′ before before′ : List ℕ) (n n′ : ℕ) (after after�
     pub tested-as-weather : (numberIn (reportIn k after) ≡ numberIn (reportIn k′ after′)) × ((¬ HasNumber 0 (reportIn k after)) → SameButLine (reportIn k after) (reportIn k′ after′))
     tested-as-weather = tags.weather-number here there a a′ k k′ differ
 
+    -- Where the first line is allowed, it is in the Code's set, and the second says the same in timber's.
+    pub said-in-timber : (c : AllowedLine (lineAt (a .0) k)) → (c .0 .weather .set ≡ code) × ((c′ : AllowedLine (lineAt (a′ .0) k′)) × (c′ .0 ≡ conditionBy timber (c .0)))
+    said-in-timber = tags.weather-read here there a a′ k k′ differ
+
     -- Where they are judged, the first by the Code's set and the second by timber's, the eleven figures are the same but for slot 4's (the seventh), and so is verdict 8.
     pub figures-of-either-set : HasNumber 0 (reportIn k after) → ((i : ℕ) → i < 11 → i ≢ 6 → figureIn i (reportIn k after) ≡ figureIn i (reportIn k′ after′)) × (verdictIn 8 (reportIn k after) ≡ verdictIn 8 (reportIn k′ after′))
     figures-of-either-set = tags.weather-figures here there a a′ k k′ differ
@@ -299,7 +322,7 @@ module _ (text text′ before before′ : List ℕ) (n n′ : ℕ) (after after�
     code-passes-as-timber = tags.weather-eased here there a a′ k k′ differ
 
 -- ---- texts of one condition
--- A text of one condition is answered as document 01 answers it: its number, its one report, and room for that alone.
+-- A text of one condition, with room for 209 bytes, is answered as document 01 answers it: the number and the one report are of that answer, and every byte beyond is as it was.
 pub of-one-condition : (text before : List ℕ) (n : ℕ) (after : List ℕ) → Judges text before n after → reportLength ≤ length before → (a : AllowedWhole mostCharacters text) → length (a .0 .conditions) ≡ 1
     → (n ≡ numberOf (answered text)) × (reportIn 0 after ≡ reportOf (answered text)) × (drop reportLength after ≡ drop reportLength before)
 of-one-condition text before n after run room a one =
@@ -314,57 +337,22 @@ Sends text m r = (before : List ℕ) (n : ℕ) (after : List ℕ) → Judges tex
 sends : (text : List ℕ) {m : ℕ} {r : List ℕ} → ones.isOne (readWhole mostCharacters text) ≡ true → numberOf (answered text) ≡ m → reportOf (answered text) ≡ r → Sends text m r
 sends text one e f before n after run room = let q = contract text before n after .0 run in sheet.one-sent text one e f before (q .0) (q .1) room
 
--- A case of the bench sheet through `judge`. (Those that speak of no text are numbers that come to others.)
-abbrev pub Sent : Case → Type 0
-Sent (judges text r) = Sends text 0 r
-Sent (refuses text m l o r) = Sends text m r
-Sent (gives found due) = found ≡ due
-
-abbrev pub AllSent : List Case → Type 0
-AllSent [] = Unit {0}
-AllSent (c ∷ cs) = Sent c × AllSent cs
-
--- P1 to P13 of the bench sheet: each text gets its number and its whole report.
-pub bench-sheet : AllSent bench
+-- The texts of the bench sheet, P1 and P10 to P13: each gets its number and its whole report. (P2 to P9 are numbers on the way to P1's; the rules have them.)
+pub bench-sheet : Sends P1 0 P1-output × Sends P10 2 (refusal "D100650200040012") × Sends P11 3 (refusal "D100650300040012") × Sends [] 5 (refusal "D100650500000000") × Sends P13 7 (refusal "D100650700000000")
 bench-sheet =
     let b = bench-holds in
     let r = b .1 .1 .1 .1 .1 .1 .1 .1 .1 in (
       sends P1 (sheet.sheet-one .0) (sheet.judged-0 .0) (b .0),
-      (
-        b .1 .0,
-        (
-          b .1 .1 .0,
-          (
-            b .1 .1 .1 .0,
-            (
-              b .1 .1 .1 .1 .0,
-              (
-                b .1 .1 .1 .1 .1 .0,
-                (
-                  b .1 .1 .1 .1 .1 .1 .0,
-                  (
-                    b .1 .1 .1 .1 .1 .1 .1 .0,
-                    (
-                      b .1 .1 .1 .1 .1 .1 .1 .1 .0,
-                      (
-                        sends sheet.P10 (sheet.sheet-one .1) (ap numberOf (r .0 .0)) (r .0 .1),
-                        (
-                          sends sheet.P11 (sheet.sheet-one .2) (ap numberOf (r .1 .0 .0)) (r .1 .0 .1),
-                          (
-                            λ before n after run room. let q = contract [] before n after .0 run in sheet.empty-sent (r .1 .1 .0 .0) (r .1 .1 .0 .1) before (q .0) (q .1) room,
-                            (sends sheet.P13 (sheet.sheet-one .3) (ap numberOf (r .1 .1 .1 .0 .0)) (r .1 .1 .1 .0 .1), tt),
-                          ),
-                        ),
-                      ),
-                    ),
-                  ),
-                ),
-              ),
-            ),
-          ),
-        ),
-      ),
+      sends P10 (sheet.sheet-one .1) (ap numberOf (r .0 .0)) (r .0 .1),
+      sends P11 (sheet.sheet-one .2) (ap numberOf (r .1 .0 .0)) (r .1 .0 .1),
+      λ before n after run room. let q = contract [] before n after .0 run in sheet.empty-sent (r .1 .1 .0 .0) (r .1 .1 .0 .1) before (q .0) (q .1) room,
+      sends P13 (sheet.sheet-one .3) (ap numberOf (r .1 .1 .1 .0 .0)) (r .1 .1 .1 .0 .1),
     )
+
+-- P1's ship and rows with three conditions: P1's, P13's, a kilogram less than the first row, and P10's, with a C2 that runs past its parent. The number is 7, the first that is not 0; the buffer begins with P1's report, that of 7, and that of 2 in line 6 at offset 18; every byte beyond is as it was.
+pub three-conditions : (before : List ℕ) (n : ℕ) (after : List ℕ) → Judges three before n after → 3 * reportLength ≤ length before
+    → (n ≡ 7) × (after ≡ concat (P1-output ∷ refusal "D100650700000000" ∷ refusal "D100650200060012" ∷ []) ++ drop (3 * reportLength) before)
+three-conditions before n after run room = let q = contract three before n after .0 run in sheet.three-sent before (q .0) (q .1) room
 
 -- The planner's tank, filled to 98.5 %, in two texts that differ in the tag alone. As a C3 it is forgiven: KG is 4,000 mm (FA0) and all eight criteria pass. As a C5 it is not: KG is 4,200 mm (1068), and criteria 1 and 3 fail.
 pub planners-tank : Sends (tanker "C3") 0 P1-output × Sends (tanker "C5") 0 cargo-output

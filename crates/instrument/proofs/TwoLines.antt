@@ -32,7 +32,7 @@ pub but-line : (ln : ℕ) (a : Ans Judgement) → SameButLine (reportOf (inLine 
 but-line ln a = let x = in-line-only ln a in record { front = x .0; behind = x .1 }
 
 -- One refusal at two lines.
-pub refusal-but-line : (n o ln ln′ : ℕ) → 1 ≤ ln → SameButLine (reportOf (refused n ln o)) (reportOf (refused n ln′ o))
+refusal-but-line : (n o ln ln′ : ℕ) → 1 ≤ ln → SameButLine (reportOf (refused n ln o)) (reportOf (refused n ln′ o))
 refusal-but-line n o ln ln′ h =
     let x = in-line-only ln′ (refused n ln o) in
     let e : inLine {A = Judgement} ln′ (refused n ln o) ≡ refused n ln′ o = rw (ne-eqb ln 0 (λ z. omega arith)) in

@@ -31,7 +31,7 @@ module _ (most n : ℕ) (t : List ℕ) where
   taken-steps = refl
 
 module _ (t buffer : List ℕ) where
-  number-taken : (most : ℕ) → number most t buffer ≡ numberFor (taken most (length buffer) t)
+  pub number-taken : (most : ℕ) → number most t buffer ≡ numberFor (taken most (length buffer) t)
   unfolding number
   number-taken most = refl
 
@@ -39,7 +39,7 @@ module _ (t buffer : List ℕ) where
   unfolding bytesSent
   bytes-taken most = refl
 
-  written-taken : (most : ℕ) → written most t buffer ≡ over (sent (taken most (length buffer) t)) buffer
+  pub written-taken : (most : ℕ) → written most t buffer ≡ over (sent (taken most (length buffer) t)) buffer
   unfolding written
   written-taken most = refl
 
