@@ -1,128 +1,199 @@
 -- What is promised of the instrument, to be read without the proofs: each promise is one theorem with a sentence above it, and its proof stands elsewhere.
--- All are stated of `judge` through its contract, which `judge` is proved to meet (proofs/judge). Their words are defined in the rules' specs/: Answer, Report and Columns (what is answered, its 209 characters, and where each number stands among them), Layout (which texts are allowed), Walk (the reading), Places (where a refusal stands), Leaves and Loading (sums, masses and KG), Tags, Cargo and Timber (two texts that differ in one tag alone, and the slots of the timber set); and in specs/Faults (1 and 2) and Outside (7 and 8).
-use mathlib.Core.Path.{_≡_, refl, sym, _∙_}
-use mathlib.Core.Logic.{_↔_, _≢_, _⊎_, ⊎-elim}
+-- All are stated of `judge` through its contract, which `judge` is proved to meet (proofs/judge). Their words are defined in the rules' specs/: Apart (which texts are allowed as a whole, which condition lines are, and what each says), Booklet and Answer (the order of checks, and what is answered), Report and Columns (a report's 209 characters, and where each number stands among them), Places (where a refusal may stand), Leaves and Loading (sums, masses and KG), Cargo and Timber (a C3 made a C5, and the slots of the timber set); and in specs/: Reported (where report k stands, and what is left in the buffer), Faults (1 and 2), Outside (7 and 8) and OneTag (two condition lines that differ in one tag alone).
+-- Reports, conditions and figures are counted from 0, verdicts from 1, lines of a text from 1.
+use mathlib.Core.Path.{_≡_, refl, ap, sym, _∙_}
+use mathlib.Core.Bool.{true}
+use mathlib.Core.Logic.{_↔_, _≢_, _⊎_}
 use mathlib.Core.List.{List, [], _∷_}
 use Prim.Native.Nat.{ℕ, _+_, _*_, _≤_, _<_}
-use lib.ListN.{length, take, drop}
+use native.Mathlib.Omega.{arith}
+use lib.IntN.{pos}
+use lib.ListN.{length, drop, getD}
 use denote.Ref.{RefT, now}
 use Rattle.rules.specs.Rounding.{ceil}
-use lib.IntN.{pos}
-use Rattle.rules.specs.Numbers.{digits, twos}
-use Rattle.rules.specs.Text.{hex, text, Lines}
-use Rattle.rules.specs.Blocks.{timber, Tank}
-use Rattle.rules.specs.Layout.{Entries, Reading, mostCharacters, Allowed}
+use Rattle.rules.specs.Numbers.{Bytes, digits, twos}
+use Rattle.rules.specs.Text.{hex}
+use Rattle.rules.specs.Blocks.{conditionTag, timber, Tank}
+use Rattle.rules.specs.Layout.{mostCharacters}
 use Rattle.rules.specs.Outcome.{refused, got}
-use Rattle.rules.specs.Walk.{read}
 use Rattle.rules.specs.Loading.{mass, moment, freeSurface, weighed}
-use Rattle.rules.specs.Leaves.{sumLeaves, SameSums, loadedWith}
-use Rattle.rules.specs.Cargo.{MadeCargo, RetaggedLines}
-use Rattle.rules.specs.Timber.{TimberLines, UnusedSlot, EasedSlot}
+use Rattle.rules.specs.Leaves.{sumLeaves, SameSums}
+use Rattle.rules.specs.Cargo.{MadeCargo}
+use Rattle.rules.specs.Timber.{UnusedSlot, EasedSlot}
 use Rattle.rules.specs.Curve.{loaded, y}
 use Rattle.rules.specs.Criteria.{angleOfGreatest}
 use Rattle.rules.specs.Report.{judgement, noJudgement, report, reportLength}
 use Rattle.rules.specs.Columns.{figureIn, verdictIn}
 use Rattle.rules.specs.Places.{Placed}
-use Rattle.rules.specs.Answer.{answered, reportOf, number, written}
-use Rattle.rules.proofs.walk.Retagged.{refused-alike, read-made-cargo}
-use Rattle.rules.proofs.walk.Timber as weathers
-use Rattle.rules.proofs.bench.Bench.{P1, P1-output}
+use Rattle.rules.specs.Booklet.{readWhole}
+use Rattle.rules.specs.Apart.{spellBooklet, AllowedWhole, AllowedLine, lineAt, readingAt, alone, respelt}
+use Rattle.rules.specs.Answer.{answered, numberOf, reportOf, inLine, number, bytesSent, written, limited}
+use Rattle.rules.specs.Answer as answers
+use Rattle.rules.proofs.booklet.Sent.{under-one}
+use Rattle.rules.proofs.booklet.Room as rooms
+use Rattle.rules.proofs.Booklets as booklets
+use Rattle.rules.proofs.bench.Cases.{Case, judges, refuses, gives}
+use Rattle.rules.proofs.bench.Bench.{P1, P1-output, bench, bench-holds}
 use Rattle.rules.proofs.bench.CargoTank.{tanker, cargo-output, planner-holds}
 use Rattle.rules.proofs.bench.TimberDeck.{tender, tender-output, tender-timber-output, coaster, coaster-output, coaster-timber-output, timbers-hold}
 use Rattle.rules.proofs.bench.Regrouped.{regrouped, asOne, asGroup, reads-as, same-sums, two-texts}
-use Rattle.instrument.specs.Faults.{NoLineAt, OverrunAt}
+use Rattle.instrument.specs.Reported.{reportIn, numberIn, HasNumber, RefusedLine, lineOf, SameButLine, RefusedAt, RefusedWhole, EachAnswered}
+use Rattle.instrument.specs.Faults.{NoLineAt, WholeOverrunAt, LineOverrunAt}
 use Rattle.instrument.specs.Outside.{Outside, TooHigh, Neither}
+use Rattle.instrument.specs.OneTag.{OtherTagIn}
 use Rattle.instrument.proofs.judge.Reads as judge
+use Rattle.instrument.proofs.judge_within.Reads as within
+use Rattle.instrument.proofs.room.Reads as asks
 use Rattle.instrument.proofs.Replies as replies
+use Rattle.instrument.proofs.FirstReport.{first-sent}
+use Rattle.instrument.proofs.Placed.{whole-placed, placed-report}
+use Rattle.instrument.proofs.Faults as faults
+use Rattle.instrument.proofs.LineReport as lines
+use Rattle.instrument.proofs.LineFigures.{figures-of-leaves}
 use Rattle.instrument.proofs.EitherSet as sets
+use Rattle.instrument.proofs.TwoLines.{by-sums}
+use Rattle.instrument.proofs.Apart as apart
+use Rattle.instrument.proofs.OneTag as tags
+use Rattle.instrument.proofs.OfOne as ones
+use Rattle.instrument.proofs.BenchSheet as sheet
+use Rattle.instrument.proofs.Within as limits
 
 -- One run of `judge` as its contract admits it: lent `text` and the buffer `before`, it sends back `n` and leaves the buffer `after`.
 -- (Post is what rattle makes of the contract itself; a: the arguments, s: the arguments at the end.)
 abbrev pub Judges : List ℕ → List ℕ → ℕ → List ℕ → Type 0
 Judges text before n after = (κs : _) × (a : _) × (s : _) × judge.Post κs a n s × (now (a .0) ≡ text) × (now (a .1 .0) ≡ before) × (now (s .1 .0) ≡ after)
 
+-- A slice that is lent, at some place in memory.
+abbrev lent : List ℕ → RefT (List ℕ)
+lent s = record { ptr = (0, 0); name = 0; now = s }
+
 -- That is the two equations of the contract, no more and no less: the number is the rules' and so is the buffer at the end.
-pub contract : (text before : List ℕ) (n : ℕ) (after : List ℕ) → Judges text before n after ↔ ((n ≡ number text before) × (after ≡ written text before))
+pub contract : (text before : List ℕ) (n : ℕ) (after : List ℕ) → Judges text before n after ↔ ((n ≡ number mostCharacters text before) × (after ≡ written mostCharacters text before))
 contract text before n after = (
   λ run. rw (← (run .4), ← (run .5), ← (run .6)) (run .3),
   λ settled. (([], ([], tt)), (lent text, (lent before, tt)), (lent text, (lent after, tt)), settled, refl, refl, refl),
 )
-  where
-    -- A slice that is lent, at some place in memory.
-    lent : List ℕ → RefT (List ℕ)
-    lent s = record { ptr = (0, 0); name = 0; now = s }
 
 module _ (text before : List ℕ) (n : ℕ) (after : List ℕ) (run : Judges text before n after) where
-  settled : (n ≡ number text before) × (after ≡ written text before)
+  settled : (n ≡ number mostCharacters text before) × (after ≡ written mostCharacters text before)
   settled = contract text before n after .0 run
 
   -- ---- every text is answered
-  -- With fewer than 209 bytes of room the number is 9 and every byte of the buffer is as it was, whatever the text.
-  pub no-room : length before < reportLength → (n ≡ 9) × (after ≡ before)
-  no-room = replies.short text before n after (settled .0) (settled .1)
+  -- With less room than the text asks for the number is 9 and every byte of the buffer is as it was.
+  pub no-room : length before < answers.room mostCharacters text → (n ≡ 9) × (after ≡ before)
+  no-room short = let g = rooms.without-room mostCharacters text before short in (settled .0 ∙ g .numbered, settled .1 ∙ g .holds)
 
-  module _ (room : reportLength ≤ length before) where
-    -- With room for 209 bytes every text is answered: the number is one of 0 to 8, the first 209 characters are the report of what document 01 answers, and each byte beyond is as it was.
-    pub every-text-answered : (n ≤ 8) × (take reportLength after ≡ reportOf (answered text)) × (drop reportLength after ≡ drop reportLength before)
-    every-text-answered = replies.room text before n after (settled .0) (settled .1) room
+  -- The number is 9 in no other case.
+  pub nine-iff-no-room : (n ≡ 9) ↔ (length before < answers.room mostCharacters text)
+  nine-iff-no-room = let x = rooms.nine-iff-no-room mostCharacters text before in (λ z. x .0 (sym (settled .0) ∙ z), λ short. no-room short .0)
 
-    -- ---- demand 1: a refusal says what and where
-    -- A text that is refused in the reading gets that refusal's number, and its report has the number, the line and the offset, verdicts 3 and figures 0.
-    pub refusal-reported : (m l o : ℕ) → read text ≡ refused m l o → (n ≡ m) × (take reportLength after ≡ report m l o noJudgement)
-    refusal-reported = replies.refusal-sent text before n after (settled .0) (settled .1) room
+  module _ (enough : answers.room mostCharacters text ≤ length before) where
+    abbrev ran : replies.Run text before n after
+    ran = record { numbered = settled .0; left = settled .1; enough = enough }
 
-    -- A reading that is refused for its mass or its KG gets 7 or 8, and its report has line 0 and offset 0, verdicts 3 and figures 0.
-    pub refusal-reported-7-8 : (r : Reading) → read text ≡ got r → (m : ℕ) → weighed r ≡ refused m 0 0 → (n ≡ m) × (take reportLength after ≡ report m 0 0 noJudgement)
-    refusal-reported-7-8 = replies.weighing-sent text before n after (settled .0) (settled .1) room
+    -- With that room every text is answered: the number is one of 0 to 8, and the text is refused for the whole, in one report, or each of its conditions has a report; every byte beyond is as it was.
+    pub every-text-answered : (n ≤ 8) × (RefusedWhole text before n after ⊎ EachAnswered text before n after)
+    every-text-answered = replies.every ran
 
-    -- Every refusal says where: for a number above 0 the report has that number, a line and an offset, and they lie within the text as document 01 has it.
-    pub refusal-placed : 1 ≤ n → (l : ℕ) × (o : ℕ) × (take reportLength after ≡ report n l o noJudgement) × Placed text n l o
-    refusal-placed = replies.placed-sent text before n after (settled .0) (settled .1) room
+    -- It is refused for the whole exactly when it is not allowed as a whole, and its conditions are answered exactly when it is; so never both.
+    pub whole-iff-allowed : (RefusedWhole text before n after ↔ (¬ AllowedWhole mostCharacters text)) × (EachAnswered text before n after ↔ AllowedWhole mostCharacters text)
+    whole-iff-allowed = replies.whole-iff ran
 
-    -- The number is 1 exactly when the text is over 12,000 characters or has within them a line that is none; then the report has line 0, or the first such line.
-    pub one-iff-no-line : ((n ≡ 1) ↔ ((l : ℕ) × NoLineAt text l)) × ((l : ℕ) → NoLineAt text l → take reportLength after ≡ report 1 l 0 noJudgement)
-    one-iff-no-line = replies.no-line-sent text before n after (settled .0) (settled .1) room
+    -- ---- demand 1, for the whole: a refusal says what and where
+    -- A text that is refused for the whole gets that refusal's number, and its one report has the number, the line and the offset, verdicts 3 and figures 0.
+    pub refusal-reported : (m l o : ℕ) → readWhole mostCharacters text ≡ refused m l o → (n ≡ m) × (reportIn 0 after ≡ report m l o noJudgement) × (drop reportLength after ≡ drop reportLength before)
+    refusal-reported = replies.whole-sent ran
 
-    -- The number is 2 exactly when the text is lines, within 12,000 characters, in which a block is met that runs past its parent; then the report has that block's line and offset.
-    pub two-iff-overrun : ((n ≡ 2) ↔ ((l : ℕ) × (o : ℕ) × OverrunAt text l o)) × ((l o : ℕ) → OverrunAt text l o → take reportLength after ≡ report 2 l o noJudgement)
-    two-iff-overrun = replies.overrun-sent text before n after (settled .0) (settled .1) room
+    -- The place lies within the text as document 01 has it: for 1 and for 2 to 6 one of the text's own lines, or line 0 where it is over 180,000 characters (1) or empty (5). The offset is 0.
+    pub refusal-placed : (refusal : RefusedWhole text before n after) → Placed text n (refusal .line) 0
+    refusal-placed refusal = whole-placed text .holds n (refusal .line) 0 (refusal .refusal)
 
-    -- ---- demand 2: the figures are those of the reading
-    -- For a text that is read and within the table and the KG, the verdicts and figures reported are those that document 01 gives for its reading.
-    pub figures-of-reading : (r : Reading) → read text ≡ got r → weighed r ≡ got tt → (n ≡ 0) × (take reportLength after ≡ report 0 0 0 (judgement (loaded r)))
-    figures-of-reading = replies.judgement-sent text before n after (settled .0) (settled .1) room
+    -- The number is 1 exactly when the text is over 180,000 characters or has within them a line that is none; then its one report has line 0, or the first such line.
+    pub one-iff-no-line : ((n ≡ 1) ↔ ((l : ℕ) × NoLineAt text l)) × ((l : ℕ) → NoLineAt text l → reportIn 0 after ≡ report 1 l 0 noJudgement)
+    one-iff-no-line = faults.no-line-sent ran
 
-    -- Each entry is counted once, through to the report's characters: for a text that is judged, the figure of W is the sum of the masses over the leaves of its one tree,
-    -- and the figure of KG the sum of the moments and free surface moments over them, by that sum of masses, rounded up.
-    pub counted-once : n ≡ 0 → (a : Allowed text) → (figureIn 0 after ≡ hex (digits 8 (sumLeaves mass (a .0 .condition .load))))
-        × (figureIn 1 after ≡ hex (digits 8 (ceil (sumLeaves moment (a .0 .condition .load) + sumLeaves freeSurface (a .0 .condition .load)) (sumLeaves mass (a .0 .condition .load)))))
-    counted-once = replies.figures-of-leaves text before n after (settled .0) (settled .1) room
+    -- The text is refused with 2 for the whole, at a line, exactly when it is lines, within 180,000 characters and with at most 24 that begin with A3, in which the ship's frame, a row's or a misplaced one runs past that line; then its one report has the line.
+    pub two-iff-overrun : (l : ℕ) → ((readWhole mostCharacters text ≡ refused 2 l 0) ↔ WholeOverrunAt text l) × (WholeOverrunAt text l → (n ≡ 2) × (reportIn 0 after ≡ report 2 l 0 noJudgement))
+    two-iff-overrun = faults.whole-overrun ran
 
-    -- A slot of the report reads 4, unused, exactly where the text is judged in the timber set, its weather a C6, and the slot is 1, 2 or 5. No other slot ever does, and none of a refusal.
-    pub unused-reads-four : (k : ℕ) → 1 ≤ k → k ≤ 8 → (verdictIn k after ≡ hex (4 ∷ [])) ↔ ((n ≡ 0) × ((a : Allowed text) × (a .0 .condition .weather .set ≡ timber)) × UnusedSlot k)
-    unused-reads-four = sets.unused-sent text before n after (settled .0) (settled .1) room
+    -- ---- the conditions of a text that is allowed as a whole
+    module _ (a : AllowedWhole mostCharacters text) where
+      -- The number is 0 exactly when every report has the number 0. Otherwise it is that of a report, and every report before that has the number 0.
+      pub number-is-first : ((n ≡ 0) ↔ ((k : ℕ) → k < length (a .0 .conditions) → HasNumber 0 (reportIn k after)))
+          × (1 ≤ n → (k : ℕ) × (k < length (a .0 .conditions)) × HasNumber n (reportIn k after) × ((i : ℕ) → i < k → HasNumber 0 (reportIn i after)))
+      number-is-first = first-sent ran a
 
-    -- Where a text with a C6 is judged, slot 4's figure is the greatest lever of the whole curve: the lever at the angle that slot 5's figure gives.
-    pub lever-at-fifth : n ≡ 0 → (a : Allowed text) → a .0 .condition .weather .set ≡ timber
-        → (figureIn 6 after ≡ hex (digits 8 (twos (y (loaded (a .0)) (pos (angleOfGreatest (loaded (a .0)))))))) × (figureIn 7 after ≡ hex (digits 8 (angleOfGreatest (loaded (a .0)))))
-    lever-at-fifth = sets.lever-sent text before n after (settled .0) (settled .1) room
+      module _ (k : ℕ) (h : k < length (a .0 .conditions)) where
+        abbrev line : lines.Reports (a .0 .ship) (a .0 .rows) (lineOf (a .0) k) (lineAt (a .0) k) (reportIn k after)
+        line = replies.line-report ran a k h
 
-    -- ---- demand 3: which texts are judged
-    -- The number is none of 1 to 6 and 9 exactly when the text is allowed.
-    pub read-iff-allowed : ((¬ ((1 ≤ n) × (n ≤ 6))) × (n ≢ 9)) ↔ Allowed text
-    read-iff-allowed = replies.unrefused text before n after (settled .0) (settled .1) room
+        -- ---- demand 1, for a condition
+        -- Report k has the number 0, or it is that of a refusal: number, line and offset, verdicts 3 and figures 0. Its place lies within the text as document 01 has it; for 2 to 6 it is a byte of the condition's own line, for 7 and 8 line 0 and offset 0.
+        pub refusal-in-its-line : HasNumber 0 (reportIn k after) ⊎ RefusedAt text (a .0) k (reportIn k after)
+        refusal-in-its-line = placed-report ran a k h
 
-    -- It is 7 exactly when the text is allowed and its total mass is below the table's first row or above its last.
-    pub seven-iff-outside : (n ≡ 7) ↔ ((a : Allowed text) × Outside (a .0))
-    seven-iff-outside = replies.number-7 text before n after (settled .0) (settled .1) room
+        -- What the line says is refused for its mass or its KG: the report has 7 or 8, line 0 and offset 0, verdicts 3 and figures 0.
+        pub refusal-reported-7-8 : (c : AllowedLine (lineAt (a .0) k)) (m : ℕ) → weighed (readingAt (a .0) (c .0)) ≡ refused m 0 0 → reportIn k after ≡ report m 0 0 noJudgement
+        refusal-reported-7-8 c m w = lines.has-off line c w .1
 
-    -- It is 8 exactly when the text is allowed, its mass inside the table, and the corrected KG above 60,000.
-    pub eight-iff-too-high : (n ≡ 8) ↔ ((a : Allowed text) × TooHigh (a .0))
-    eight-iff-too-high = replies.number-8 text before n after (settled .0) (settled .1) room
+        -- Report k has the number 2 exactly when in its line, the ship, the rows and this condition alone being read, a block is met that runs past its parent; then the report has that line and the block's offset.
+        pub two-in-line : (HasNumber 2 (reportIn k after) ↔ ((o : ℕ) × LineOverrunAt (a .0) k o)) × ((o : ℕ) → LineOverrunAt (a .0) k o → reportIn k after ≡ report 2 (lineOf (a .0) k) o noJudgement)
+        two-in-line = faults.line-overrun ran a k h
 
-    -- It is 0, and the ship is judged, exactly when the text is allowed and neither holds.
-    pub judged-iff-neither : (n ≡ 0) ↔ ((a : Allowed text) × Neither (a .0))
-    judged-iff-neither = replies.number-0 text before n after (settled .0) (settled .1) room
+        -- ---- demand 2: the figures are those of the reading
+        -- For a line that is allowed and what it says within the table and the KG, the verdicts and figures reported are those that document 01 gives for the ship, the rows and this condition.
+        pub figures-of-reading : (c : AllowedLine (lineAt (a .0) k)) → weighed (readingAt (a .0) (c .0)) ≡ got tt → reportIn k after ≡ report 0 0 0 (judgement (loaded (readingAt (a .0) (c .0))))
+        figures-of-reading c w = lines.has-judged line c w .1
+
+        -- Each entry is counted once, through to the report's characters: for a condition that is judged, the figure of W is the sum of the masses over the leaves of its one tree,
+        -- and the figure of KG the sum of the moments and free surface moments over them, by that sum of masses, rounded up.
+        pub counted-once : HasNumber 0 (reportIn k after) → (c : AllowedLine (lineAt (a .0) k)) → (figureIn 0 (reportIn k after) ≡ hex (digits 8 (sumLeaves mass (c .0 .load))))
+            × (figureIn 1 (reportIn k after) ≡ hex (digits 8 (ceil (sumLeaves moment (c .0 .load) + sumLeaves freeSurface (c .0 .load)) (sumLeaves mass (c .0 .load)))))
+        counted-once = figures-of-leaves line
+
+        -- A slot of report k reads 4, unused, exactly where the condition is judged in the timber set, its weather a C6, and the slot is 1, 2 or 5. No other slot ever does, and none of a refusal.
+        pub unused-reads-four : (i : ℕ) → 1 ≤ i → i ≤ 8
+            → (verdictIn i (reportIn k after) ≡ hex (4 ∷ [])) ↔ (HasNumber 0 (reportIn k after) × ((c : AllowedLine (lineAt (a .0) k)) × (c .0 .weather .set ≡ timber)) × UnusedSlot i)
+        unused-reads-four = sets.unused-sent line
+
+        -- Where a condition with a C6 is judged, slot 4's figure is the greatest lever of the whole curve: the lever at the angle that slot 5's figure gives.
+        pub lever-at-fifth : HasNumber 0 (reportIn k after) → (c : AllowedLine (lineAt (a .0) k)) → c .0 .weather .set ≡ timber
+            → (figureIn 6 (reportIn k after) ≡ hex (digits 8 (twos (y (loaded (readingAt (a .0) (c .0))) (pos (angleOfGreatest (loaded (readingAt (a .0) (c .0)))))))))
+            × (figureIn 7 (reportIn k after) ≡ hex (digits 8 (angleOfGreatest (loaded (readingAt (a .0) (c .0))))))
+        lever-at-fifth = sets.lever-sent line
+
+        -- ---- demand 3: which conditions are judged
+        -- Report k has a number from 2 to 6 exactly when its line is not allowed, and none of them exactly when it is.
+        pub line-iff-allowed : (RefusedLine (reportIn k after) ↔ (¬ AllowedLine (lineAt (a .0) k))) × ((¬ RefusedLine (reportIn k after)) ↔ AllowedLine (lineAt (a .0) k))
+        line-iff-allowed = lines.refused-iff line
+
+        -- It has 7 exactly when the line is allowed and its total mass is below the table's first row or above its last.
+        pub seven-iff-outside : HasNumber 7 (reportIn k after) ↔ ((c : AllowedLine (lineAt (a .0) k)) × Outside (readingAt (a .0) (c .0)))
+        seven-iff-outside = lines.number-7 line
+
+        -- It has 8 exactly when the line is allowed, its mass inside the table, and the corrected KG above 60,000.
+        pub eight-iff-too-high : HasNumber 8 (reportIn k after) ↔ ((c : AllowedLine (lineAt (a .0) k)) × TooHigh (readingAt (a .0) (c .0)))
+        eight-iff-too-high = lines.number-8 line
+
+        -- It has 0, and the condition is judged, exactly when the line is allowed and neither holds.
+        pub judged-iff-neither : HasNumber 0 (reportIn k after) ↔ ((c : AllowedLine (lineAt (a .0) k)) × Neither (readingAt (a .0) (c .0)))
+        judged-iff-neither = lines.number-0 line
+
+        -- ---- each condition for itself
+        -- Report k and the one report of the text with that condition alone are the same but for characters 9 to 12, which name the line; that text's number is report k's; and report k is the answer to that text with the line number of the long one.
+        pub each-as-alone : (before′ : List ℕ) (n′ : ℕ) (after′ : List ℕ) → Judges (spellBooklet (alone (a .0) (lineAt (a .0) k))) before′ n′ after′ → reportLength ≤ length before′
+            → SameButLine (reportIn k after) (reportIn 0 after′) × HasNumber n′ (reportIn k after) × (reportIn k after ≡ reportOf (inLine (lineOf (a .0) k) (answered (spellBooklet (alone (a .0) (lineAt (a .0) k))))))
+        each-as-alone before′ n′ after′ run′ room =
+            let q = contract _ before′ n′ after′ .0 run′ in
+            apart.sent-alone ran a k h (record { numbered = q .0; left = q .1; enough = omega (arith, apart.room-alone ran a k h) })
+
+        -- A fault in a condition line spoils its own report only: whatever begins with A3 may stand in line k instead, within 180,000 characters, and every other report is as it was.
+        pub spoils-its-own : (l : List ℕ) → getD l 0 0 ≡ conditionTag → Bytes l → length (spellBooklet (respelt (a .0) k l)) ≤ mostCharacters
+            → (before′ : List ℕ) (n′ : ℕ) (after′ : List ℕ) → Judges (spellBooklet (respelt (a .0) k l)) before′ n′ after′ → reportLength * length (a .0 .conditions) ≤ length before′
+            → (i : ℕ) → i ≢ k → i < length (a .0 .conditions) → reportIn i after ≡ reportIn i after′
+        spoils-its-own l tag B m before′ n′ after′ run′ room =
+            let q = contract _ before′ n′ after′ .0 run′ in
+            apart.sent-others ran a k h l tag B m (record { numbered = q .0; left = q .1; enough = omega (arith, apart.room-other ran a k h l tag B m) })
 
 -- ---- one answer
 -- Any two runs over the same text and the same buffer send back the same number and leave the same buffer.
@@ -132,86 +203,213 @@ one-answer text before n n′ after after′ run run′ =
     let q = contract text before n′ after′ .0 run′ in
     (p .0 ∙ sym (q .0), p .1 ∙ sym (q .1))
 
+-- A text that is allowed as a whole says one booklet only, and an allowed line one condition.
+pub one-booklet : (text : List ℕ) (a a′ : AllowedWhole mostCharacters text) → a .0 ≡ a′ .0
+one-booklet = booklets.one-booklet mostCharacters
+
+pub one-condition : (l : List ℕ) (c c′ : AllowedLine l) → c .0 ≡ c′ .0
+one-condition = booklets.one-condition
+
 -- ---- the sums settle the report
--- Two texts of one ship, table and weather whose entries have the same sum of masses and the same sum of moments with free surface moments, each with room, get the same number and the same report:
--- what is judged is that, and nothing else of the entries, of how they are grouped, of the text or of the buffer.
+-- Two conditions, of one text or of two, each with room, that say one ship, table and weather, and whose entries have the same sum of masses and the same sum of moments with free surface moments, get the same report, character by character:
+-- what is judged is that, and nothing else of the entries, of how they are grouped, of the text, of the condition's place in it or of the buffer.
 pub reading-settles : (text text′ before before′ : List ℕ) (n n′ : ℕ) (after after′ : List ℕ) → Judges text before n after → Judges text′ before′ n′ after′
-    → reportLength ≤ length before → reportLength ≤ length before′ → (a : Allowed text) (a′ : Allowed text′) → SameSums (a .0) (a′ .0) → (n ≡ n′) × (take reportLength after ≡ take reportLength after′)
-reading-settles text text′ before before′ n n′ after after′ run run′ room room′ a a′ same =
-    let p = contract text before n after .0 run in
-    let q = contract text′ before′ n′ after′ .0 run′ in
-    replies.by-sums text text′ before before′ n n′ after after′ (p .0) (p .1) (q .0) (q .1) room room′ a a′ same
+    → answers.room mostCharacters text ≤ length before → answers.room mostCharacters text′ ≤ length before′
+    → (a : AllowedWhole mostCharacters text) (a′ : AllowedWhole mostCharacters text′) (k k′ : ℕ) → k < length (a .0 .conditions) → k′ < length (a′ .0 .conditions)
+    → (c : AllowedLine (lineAt (a .0) k)) (c′ : AllowedLine (lineAt (a′ .0) k′)) → SameSums (readingAt (a .0) (c .0)) (readingAt (a′ .0) (c′ .0)) → reportIn k after ≡ reportIn k′ after′
+reading-settles text text′ before before′ n n′ after after′ run run′ enough enough′ a a′ k k′ h h′ c c′ same =
+    by-sums (line text before n after run enough a k h) (line text′ before′ n′ after′ run′ enough′ a′ k′ h′) c c′ same
 
 -- Such texts need have nothing else in common: P1, whose load is one item, and a text whose load is a group of another item and a tank.
-pub two-such-texts : (a : Allowed P1) × (a′ : Allowed regrouped) × SameSums (a .0) (a′ .0) × (P1 ≢ regrouped)
-two-such-texts = (replies.allowed P1 asOne (reads-as .0), replies.allowed regrouped asGroup (reads-as .1), same-sums, two-texts)
+pub two-such-texts : (a : AllowedWhole mostCharacters P1) × (a′ : AllowedWhole mostCharacters regrouped) × (c : AllowedLine (lineAt (a .0) 0)) × (c′ : AllowedLine (lineAt (a′ .0) 0))
+    × SameSums (readingAt (a .0) (c .0)) (readingAt (a′ .0) (c′ .0)) × (P1 ≢ regrouped)
+two-such-texts =
+    let x = ones.of-reading P1 asOne (reads-as .0) in
+    let x′ = ones.of-reading regrouped asGroup (reads-as .1) in
+    (x .0, x′ .0, x .1, x′ .1, rw (x .2, x′ .2) same-sums, two-texts)
 
--- ---- cargo tanks
--- Two texts of lines within 12,000 characters, each with room, that differ in one tag alone: a block that begins with C3 in the first, well or ill, as a frame or in a condition that fills its line, begins with C5 in the second.
-module _ (ls ls′ : List (List ℕ)) (retagged : RetaggedLines ls ls′) (L : Lines ls) (short : length (text ls) ≤ mostCharacters)
-    (before before′ : List ℕ) (n n′ : ℕ) (after after′ : List ℕ) (run : Judges (text ls) before n after) (run′ : Judges (text ls′) before′ n′ after′) (room : reportLength ≤ length before) (room′ : reportLength ≤ length before′) where
-  -- A C5 is tested as a C3: where either is refused with one of 1 to 6, both have the same number and the same report, and so the same place.
-  pub tested-as-tank : ((1 ≤ n) × (n ≤ 6)) ⊎ ((1 ≤ n′) × (n′ ≤ 6)) → (n ≡ n′) × (take reportLength after ≡ take reportLength after′)
-  tested-as-tank =
-      let p = contract (text ls) before n after .0 run in
-      let q = contract (text ls′) before′ n′ after′ .0 run′ in
-      ⊎-elim
-      (replies.refused-same (text ls) (text ls′) before before′ n n′ after after′ (p .0) (p .1) (q .0) (q .1) room room′ (λ m l o. refused-alike retagged L short m l o .0))
-      (λ x. let s = replies.refused-same (text ls′) (text ls) before′ before n′ n after′ after (q .0) (q .1) (p .0) (p .1) room′ room (λ m l o. refused-alike retagged L short m l o .1) x in (sym (s .0), sym (s .1)))
+-- ---- a condition line with one tag made another
+-- Two texts that are allowed as a whole, each with room, with one ship and the same rows; condition k of the first and k′ of the second.
+module _ (text text′ before before′ : List ℕ) (n n′ : ℕ) (after after′ : List ℕ) (run : Judges text before n after) (run′ : Judges text′ before′ n′ after′)
+    (enough : answers.room mostCharacters text ≤ length before) (enough′ : answers.room mostCharacters text′ ≤ length before′)
+    (a : AllowedWhole mostCharacters text) (a′ : AllowedWhole mostCharacters text′) (k k′ : ℕ) where
+  abbrev here : replies.Run text before n after
+  here = ran text before n after run enough
 
-  -- Otherwise that block is a tank t of the first text, and the second says the same with t made a cargo tank.
-  -- Filled below 98 %, the two get the same number and the same report. From 98 % on the C5 is not forgiven: where the second text is judged, its figure of W is of the first one's masses, and its figure of KG of the first one's moments and free surface moments with the full moment of t besides.
-  pub cargo-never-forgiven : (a : Allowed (text ls)) → (t : Tank) × (G : Entries) × MadeCargo t (a .0 .condition .load) G × (read (text ls′) ≡ got (loadedWith (a .0) G))
-      × (t .fill < 980 → (n ≡ n′) × (take reportLength after ≡ take reportLength after′))
-      × (980 ≤ t .fill → n′ ≡ 0 → (figureIn 0 after′ ≡ hex (digits 8 (sumLeaves mass (a .0 .condition .load))))
-      × (figureIn 1 after′ ≡ hex (digits 8 (ceil (sumLeaves moment (a .0 .condition .load) + sumLeaves freeSurface (a .0 .condition .load) + 1000 * t .density * t .inertia) (sumLeaves mass (a .0 .condition .load))))))
-  cargo-never-forgiven a =
-      let m = read-made-cargo retagged L short (a .0) (replies.read-of (text ls) a) in
-      let a′ = replies.allowed (text ls′) (loadedWith (a .0) (m .1)) (m .3) in
-      let q = contract (text ls′) before′ n′ after′ .0 run′ in (
-        m .0,
-        m .1,
-        m .2,
-        m .3,
-        λ slack. reading-settles (text ls) (text ls′) before before′ n n′ after after′ run run′ room room′ a a′ (replies.same-sums-below (a .0) (m .0) (m .1) (m .2) slack),
-        λ full judged. replies.figures-made-cargo (text ls′) before′ n′ after′ (q .0) (q .1) room′ judged (a .0) (m .0) (m .1) (m .3) (m .2) full,
-      )
+  abbrev there : replies.Run text′ before′ n′ after′
+  there = ran text′ before′ n′ after′ run′ enough′
+
+  -- ---- cargo tanks
+  -- The two lines differ in one tag alone: a block that begins with C3 in the first, well or ill, begins with C5 in the second.
+  module _ (differ : OtherTagIn 0xC3 0xC5 (a .0) k (a′ .0) k′) where
+    -- A C5 is tested as a C3: where either has a number from 2 to 6, both reports are the same but for the line that they name, and so have the same number and offset.
+    pub tested-as-tank : RefusedLine (reportIn k after) ⊎ RefusedLine (reportIn k′ after′) → SameButLine (reportIn k after) (reportIn k′ after′)
+    tested-as-tank = tags.tank-refused here there a a′ k k′ differ
+
+    -- Otherwise that block is a tank t of the first line, and the second says the same with t made a cargo tank.
+    -- Filled below 98 %, the two get the same report. From 98 % on the C5 is not forgiven: where the second is judged, its figure of W is of the first one's masses, and its figure of KG of the first one's moments and free surface moments with the full moment of t besides.
+    pub cargo-never-forgiven : (c : AllowedLine (lineAt (a .0) k)) → (t : Tank) × (c′ : AllowedLine (lineAt (a′ .0) k′)) × (c .0 .weather ≡ c′ .0 .weather) × MadeCargo t (c .0 .load) (c′ .0 .load)
+        × (t .fill < 980 → reportIn k after ≡ reportIn k′ after′)
+        × (980 ≤ t .fill → HasNumber 0 (reportIn k′ after′) → (figureIn 0 (reportIn k′ after′) ≡ hex (digits 8 (sumLeaves mass (c .0 .load))))
+        × (figureIn 1 (reportIn k′ after′) ≡ hex (digits 8 (ceil (sumLeaves moment (c .0 .load) + sumLeaves freeSurface (c .0 .load) + 1000 * t .density * t .inertia) (sumLeaves mass (c .0 .load))))))
+    cargo-never-forgiven = tags.tank-read here there a a′ k k′ differ
+
+  -- ---- timber on deck
+  -- The two lines differ in one tag alone: a block that begins with C1 in the first, well or ill, begins with C6 in the second.
+  module _ (differ : OtherTagIn 0xC1 0xC6 (a .0) k (a′ .0) k′) where
+    -- A C6 is tested as a C1: both reports have the same number, and where it is not 0 they are the same but for the line that they name, and so have the same offset.
+    pub tested-as-weather : (numberIn (reportIn k after) ≡ numberIn (reportIn k′ after′)) × ((¬ HasNumber 0 (reportIn k after)) → SameButLine (reportIn k after) (reportIn k′ after′))
+    tested-as-weather = tags.weather-number here there a a′ k k′ differ
+
+    -- Where they are judged, the first by the Code's set and the second by timber's, the eleven figures are the same but for slot 4's (the seventh), and so is verdict 8.
+    pub figures-of-either-set : HasNumber 0 (reportIn k after) → ((i : ℕ) → i < 11 → i ≢ 6 → figureIn i (reportIn k after) ≡ figureIn i (reportIn k′ after′)) × (verdictIn 8 (reportIn k after) ≡ verdictIn 8 (reportIn k′ after′))
+    figures-of-either-set = tags.weather-figures here there a a′ k k′ differ
+
+    -- And of slots 3, 6 and 7 each that reads pass (1) by the Code reads pass as timber.
+    pub code-passes-as-timber : HasNumber 0 (reportIn k after) → (i : ℕ) → EasedSlot i → verdictIn i (reportIn k after) ≡ hex (1 ∷ []) → verdictIn i (reportIn k′ after′) ≡ hex (1 ∷ [])
+    code-passes-as-timber = tags.weather-eased here there a a′ k k′ differ
+
+-- ---- texts of one condition
+-- A text of one condition is answered as document 01 answers it: its number, its one report, and room for that alone.
+pub of-one-condition : (text before : List ℕ) (n : ℕ) (after : List ℕ) → Judges text before n after → reportLength ≤ length before → (a : AllowedWhole mostCharacters text) → length (a .0 .conditions) ≡ 1
+    → (n ≡ numberOf (answered text)) × (reportIn 0 after ≡ reportOf (answered text)) × (drop reportLength after ≡ drop reportLength before)
+of-one-condition text before n after run room a one =
+    let enough : answers.room mostCharacters text ≤ length before = omega (arith, ones.room-one a one) in
+    let s = ones.sent-one a one (ran text before n after run enough) in
+    (s .0, s .1, ones.beyond-one a one (ran text before n after run enough))
+
+-- With room for 209 bytes a text gets this number, and this report at the front of the buffer.
+abbrev pub Sends : List ℕ → ℕ → List ℕ → Type 0
+Sends text m r = (before : List ℕ) (n : ℕ) (after : List ℕ) → Judges text before n after → reportLength ≤ length before → (n ≡ m) × (reportIn 0 after ≡ r)
+
+sends : (text : List ℕ) {m : ℕ} {r : List ℕ} → ones.isOne (readWhole mostCharacters text) ≡ true → numberOf (answered text) ≡ m → reportOf (answered text) ≡ r → Sends text m r
+sends text one e f before n after run room = let q = contract text before n after .0 run in sheet.one-sent text one e f before (q .0) (q .1) room
+
+-- A case of the bench sheet through `judge`. (Those that speak of no text are numbers that come to others.)
+abbrev pub Sent : Case → Type 0
+Sent (judges text r) = Sends text 0 r
+Sent (refuses text m l o r) = Sends text m r
+Sent (gives found due) = found ≡ due
+
+abbrev pub AllSent : List Case → Type 0
+AllSent [] = Unit {0}
+AllSent (c ∷ cs) = Sent c × AllSent cs
+
+-- P1 to P13 of the bench sheet: each text gets its number and its whole report.
+pub bench-sheet : AllSent bench
+bench-sheet =
+    let b = bench-holds in
+    let r = b .1 .1 .1 .1 .1 .1 .1 .1 .1 in (
+      sends P1 (sheet.sheet-one .0) (sheet.judged-0 .0) (b .0),
+      (
+        b .1 .0,
+        (
+          b .1 .1 .0,
+          (
+            b .1 .1 .1 .0,
+            (
+              b .1 .1 .1 .1 .0,
+              (
+                b .1 .1 .1 .1 .1 .0,
+                (
+                  b .1 .1 .1 .1 .1 .1 .0,
+                  (
+                    b .1 .1 .1 .1 .1 .1 .1 .0,
+                    (
+                      b .1 .1 .1 .1 .1 .1 .1 .1 .0,
+                      (
+                        sends sheet.P10 (sheet.sheet-one .1) (ap numberOf (r .0 .0)) (r .0 .1),
+                        (
+                          sends sheet.P11 (sheet.sheet-one .2) (ap numberOf (r .1 .0 .0)) (r .1 .0 .1),
+                          (
+                            λ before n after run room. let q = contract [] before n after .0 run in sheet.empty-sent (r .1 .1 .0 .0) (r .1 .1 .0 .1) before (q .0) (q .1) room,
+                            (sends sheet.P13 (sheet.sheet-one .3) (ap numberOf (r .1 .1 .1 .0 .0)) (r .1 .1 .1 .0 .1), tt),
+                          ),
+                        ),
+                      ),
+                    ),
+                  ),
+                ),
+              ),
+            ),
+          ),
+        ),
+      ),
+    )
 
 -- The planner's tank, filled to 98.5 %, in two texts that differ in the tag alone. As a C3 it is forgiven: KG is 4,000 mm (FA0) and all eight criteria pass. As a C5 it is not: KG is 4,200 mm (1068), and criteria 1 and 3 fail.
-pub planners-tank : (before before′ : List ℕ) (n n′ : ℕ) (after after′ : List ℕ) → Judges (tanker "C3") before n after → Judges (tanker "C5") before′ n′ after′ → reportLength ≤ length before → reportLength ≤ length before′
-    → (take reportLength after ≡ P1-output) × (take reportLength after′ ≡ cargo-output)
-planners-tank before before′ n n′ after after′ run run′ room room′ =
-    (every-text-answered (tanker "C3") before n after run room .1 ∙ planner-holds .0, every-text-answered (tanker "C5") before′ n′ after′ run′ room′ .1 ∙ planner-holds .1 .0)
-
--- ---- timber on deck
--- Two texts of lines within 12,000 characters, each with room, that differ in one tag alone: a block that begins with C1 in the first, well or ill, as a frame or in a condition that fills its line, begins with C6 in the second.
-module _ (ls ls′ : List (List ℕ)) (other : TimberLines ls ls′) (L : Lines ls) (short : length (text ls) ≤ mostCharacters)
-    (before before′ : List ℕ) (n n′ : ℕ) (after after′ : List ℕ) (run : Judges (text ls) before n after) (run′ : Judges (text ls′) before′ n′ after′) (room : reportLength ≤ length before) (room′ : reportLength ≤ length before′) where
-  either : {X : Type 0} → (n ≡ number (text ls) before → after ≡ written (text ls) before → n′ ≡ number (text ls′) before′ → after′ ≡ written (text ls′) before′ → X) → X
-  either f =
-      let p = contract (text ls) before n after .0 run in
-      let q = contract (text ls′) before′ n′ after′ .0 run′ in
-      f (p .0) (p .1) (q .0) (q .1)
-
-  -- A C6 is tested as a C1: both get the same number, and where it is not 0 the same report, and so the same place.
-  pub tested-as-weather : (n ≡ n′) × (1 ≤ n → take reportLength after ≡ take reportLength after′)
-  tested-as-weather = either (λ N W N′ W′. sets.same-number (text ls) (text ls′) before before′ n n′ after after′ N W N′ W′ room room′ (λ m l o. weathers.refused-alike other L short m l o .0) (weathers.read-in-timber other L short))
-
-  -- Where they are judged, the first by the Code's set and the second by timber's, the eleven figures are the same but for slot 4's (the seventh), and so is verdict 8.
-  pub figures-of-either-set : n ≡ 0 → ((i : ℕ) → i < 11 → i ≢ 6 → figureIn i after ≡ figureIn i after′) × (verdictIn 8 after ≡ verdictIn 8 after′)
-  figures-of-either-set z = either (λ N W N′ W′. sets.either-figures (text ls) (text ls′) before before′ n n′ after after′ N W N′ W′ room room′ (λ m l o. weathers.refused-alike other L short m l o .0) (weathers.read-in-timber other L short) z)
-
-  -- And of slots 3, 6 and 7 each that reads pass (1) by the Code reads pass as timber.
-  pub code-passes-as-timber : n ≡ 0 → (k : ℕ) → EasedSlot k → verdictIn k after ≡ hex (1 ∷ []) → verdictIn k after′ ≡ hex (1 ∷ [])
-  code-passes-as-timber z = either (λ N W N′ W′. sets.eased-slots (text ls) (text ls′) before before′ n n′ after after′ N W N′ W′ room room′ (λ m l o. weathers.refused-alike other L short m l o .0) (weathers.read-in-timber other L short) z)
+pub planners-tank : Sends (tanker "C3") 0 P1-output × Sends (tanker "C5") 0 cargo-output
+planners-tank = (sends (tanker "C3") (sheet.tankers-one .0) (sheet.judged-0 .1) (planner-holds .0), sends (tanker "C5") (sheet.tankers-one .1) (sheet.judged-0 .2) (planner-holds .1 .0))
 
 -- Neither set asks less than the other. A ship with a greatest lever of 0.2495 m passes all eight by the Code, and as timber fails slot 4. One that floods from 29.9° on, with the deck edge in the water at 0.1°, fails 2, 3, 4 and 7 by the Code and passes all that are used as timber. In each pair of texts the tag alone differs.
-pub neither-set-covers : (before : List ℕ) (n : ℕ) (after : List ℕ) → reportLength ≤ length before
-    → (Judges (tender "C1") before n after → take reportLength after ≡ tender-output) × (Judges (tender "C6") before n after → take reportLength after ≡ tender-timber-output)
-    × (Judges (coaster "C1") before n after → take reportLength after ≡ coaster-output) × (Judges (coaster "C6") before n after → take reportLength after ≡ coaster-timber-output)
-neither-set-covers before n after room = (
-  λ run. every-text-answered (tender "C1") before n after run room .1 ∙ timbers-hold .1 .0,
-  λ run. every-text-answered (tender "C6") before n after run room .1 ∙ timbers-hold .1 .1 .0,
-  λ run. every-text-answered (coaster "C1") before n after run room .1 ∙ timbers-hold .1 .1 .1 .0,
-  λ run. every-text-answered (coaster "C6") before n after run room .1 ∙ timbers-hold .1 .1 .1 .1 .0,
+pub neither-set-covers : Sends (tender "C1") 0 tender-output × Sends (tender "C6") 0 tender-timber-output × Sends (coaster "C1") 0 coaster-output × Sends (coaster "C6") 0 coaster-timber-output
+neither-set-covers = (
+  sends (tender "C1") (sheet.timbers-one .0) (sheet.judged-0 .3) (timbers-hold .1 .0),
+  sends (tender "C6") (sheet.timbers-one .1) (sheet.judged-0 .4) (timbers-hold .1 .1 .0),
+  sends (coaster "C1") (sheet.timbers-one .2) (sheet.judged-0 .5) (timbers-hold .1 .1 .1 .0),
+  sends (coaster "C6") (sheet.timbers-one .3) (sheet.judged-0 .6) (timbers-hold .1 .1 .1 .1 .0),
 )
+
+-- ---- how much room
+-- One run of `room` as its contract admits it: lent `text`, it sends back `r`.
+abbrev pub Asks : List ℕ → ℕ → Type 0
+Asks text r = (κs : _) × (a : _) × (s : _) × asks.Post κs a r s × (now (a .0) ≡ text)
+
+told : (text : List ℕ) (r : ℕ) → Asks text r → r ≡ answers.room mostCharacters text
+told text r run = rw (← (run .4)) (run .3)
+
+-- What `room` tells is what `judge` asks for: `judge` gives 9 exactly when its buffer is shorter.
+pub room-tells : (text : List ℕ) (r : ℕ) → Asks text r → (before : List ℕ) (n : ℕ) (after : List ℕ) → Judges text before n after → (n ≡ 9) ↔ (length before < r)
+room-tells text r run before n after run′ = rw (told text r run) (nine-iff-no-room text before n after run′)
+
+-- It is at least 209 and at most 24 times that; and 209 for each condition of a text that is allowed as a whole.
+pub room-is : (text : List ℕ) (r : ℕ) → Asks text r → (reportLength ≤ r) × (r ≤ 24 * reportLength) × ((a : AllowedWhole mostCharacters text) → r ≡ reportLength * length (a .0 .conditions))
+room-is text r run =
+    let b = rooms.room-bounds mostCharacters text in
+    let e = told text r run in
+    (omega arith, omega arith, λ a. e ∙ rooms.room-read mostCharacters text (a .0) (replies.read-back a))
+
+-- ---- a limit of one's own
+-- One run of `judge_within` as its contract admits it: lent `text` and the buffer `before`, with this limit, it sends back the number `n` and the length `bytes`, and leaves the buffer `after`.
+abbrev pub JudgesWithin : List ℕ → ℕ → List ℕ → ℕ → ℕ → List ℕ → Type 0
+JudgesWithin text limit before n bytes after = (κs : _) × (a : _) × (r : _) × (s : _) × within.Post κs a r s
+    × (now (a .0) ≡ text) × (a .1 .0 ≡ limit) × (now (a .1 .1 .0) ≡ before) × (r .number ≡ n) × (r .length ≡ bytes) × (now (s .1 .1 .0) ≡ after)
+
+-- That is the three equations of the contract, no more and no less.
+pub within-contract : (text : List ℕ) (limit : ℕ) (before : List ℕ) (n bytes : ℕ) (after : List ℕ)
+    → JudgesWithin text limit before n bytes after ↔ ((n ≡ number (limited limit) text before) × (bytes ≡ bytesSent (limited limit) text before) × (after ≡ written (limited limit) text before))
+within-contract text limit before n bytes after = (
+  λ run. let p = run .4 in rw (← (run .5), ← (run .6), ← (run .7), ← (run .8), ← (run .9), ← (run .10)) (p .0, p .1 .0, p .1 .1),
+  λ x. (([], ([], tt)), (lent text, (limit, (lent before, tt))), record { number = n; length = bytes }, (lent text, (limit, (lent after, tt))), (x .0, (x .1, x .2)), refl, refl, refl, refl, refl, refl),
+)
+
+module _ (text : List ℕ) (limit : ℕ) (before : List ℕ) (n bytes : ℕ) (after : List ℕ) (run : JudgesWithin text limit before n bytes after) where
+  within-settled : (n ≡ number (limited limit) text before) × (bytes ≡ bytesSent (limited limit) text before) × (after ≡ written (limited limit) text before)
+  within-settled = within-contract text limit before n bytes after .0 run
+
+  -- With a limit of 180,000 or more it is `judge`; and so for every text that is no longer than its limit.
+  pub within-as-judge : (mostCharacters ≤ limit → Judges text before n after) × (length text ≤ limit → Judges text before n after)
+  within-as-judge =
+      let q = within-settled in (
+        λ h. let e : limited limit ≡ mostCharacters = omega arith in contract text before n after .1 (rw e at (q .0), rw e at (q .2)),
+        λ h. let w = limits.within-same text before limit h in contract text before n after .1 (q .0 ∙ w .0, q .2 ∙ w .2),
+      )
+
+  -- A text longer than the limit, whatever it holds, is refused with 1 at line 0 and offset 0, where there is room for 209 bytes; with less the number is 9 and every byte of the buffer is as it was.
+  pub within-too-long : limit < length text
+      → (reportLength ≤ length before → (n ≡ 1) × (bytes ≡ reportLength) × (reportIn 0 after ≡ report 1 0 0 noJudgement) × (drop reportLength after ≡ drop reportLength before))
+      × (length before < reportLength → (n ≡ 9) × (bytes ≡ 0) × (after ≡ before))
+  within-too-long h =
+      let q = within-settled in (
+        λ g. let w = limits.too-long text before limit h g in (q .0 ∙ w .0, q .1 ∙ w .1, ap (reportIn 0) (q .2) ∙ w .2, ap (drop reportLength) (q .2) ∙ w .3),
+        λ g. let w = under-one (limited limit) text before g in (q .0 ∙ w .numbered, q .1 ∙ w .long, q .2 ∙ w .holds),
+      )
+
+  -- The length that is sent back is that of the reports: 0 with 9, 209 where a text no longer than the limit is refused for the whole, and 209 for each of its conditions where it is not.
+  pub within-length : length text ≤ limit → (n ≡ 9 → bytes ≡ 0) × (RefusedWhole text before n after → bytes ≡ reportLength) × ((x : EachAnswered text before n after) → bytes ≡ reportLength * length (x .allowed .0 .conditions))
+  within-length h =
+      let q = within-settled in
+      let w = limits.within-same text before limit h in
+      let b = limits.bytes-told text before n after (q .0 ∙ w .0) (q .2 ∙ w .2) in
+      let e = q .1 ∙ w .1 in
+      (λ z. e ∙ b .0 z, λ x. e ∙ b .1 x, λ x. e ∙ b .2 x)

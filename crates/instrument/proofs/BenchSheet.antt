@@ -1,0 +1,67 @@
+-- The worked texts of one condition through a run: what their reading, their number and their report come to, by computation.
+use mathlib.Core.Path.{_≡_, refl, ap, sym, _∙_}
+use mathlib.Core.Bool.{true}
+use mathlib.Core.List.{List, []}
+use Prim.Native.Nat.{ℕ, _≤_}
+use native.Mathlib.Omega.{arith}
+use lib.ListN.{length}
+use Rattle.rules.specs.Layout.{mostCharacters}
+use Rattle.rules.specs.Outcome.{refused}
+use Rattle.rules.specs.Report.{report, reportLength}
+use Rattle.rules.specs.Booklet.{readWhole}
+use Rattle.rules.specs.Answer.{answered, numberOf, reportOf, taken, number, written, room}
+use Rattle.rules.proofs.answer.Steps.{report-refused}
+use Rattle.rules.proofs.bench.Bench.{with, P1}
+use Rattle.rules.proofs.bench.CargoTank.{tanker}
+use Rattle.rules.proofs.bench.TimberDeck.{tender, coaster}
+use Rattle.instrument.specs.Reported.{reportIn}
+use Rattle.instrument.proofs.Replies.{whole-sent}
+use Rattle.instrument.proofs.OfOne.{isOne, one-read, room-one, sent-one}
+
+pub one-sent : (t : List ℕ) {m : ℕ} {r : List ℕ} → isOne (readWhole mostCharacters t) ≡ true → numberOf (answered t) ≡ m → reportOf (answered t) ≡ r
+    → (before : List ℕ) {n : ℕ} {after : List ℕ} → n ≡ number mostCharacters t before → after ≡ written mostCharacters t before → reportLength ≤ length before → (n ≡ m) × (reportIn 0 after ≡ r)
+one-sent t one e f before N W h =
+    let a = one-read t one in
+    let s = sent-one (a .0) (a .1) (record { numbered = N; left = W; enough = omega (arith, room-one (a .0) (a .1)) }) in
+    (s .0 ∙ e, s .1 ∙ f)
+
+-- P10, P11 and P13: a length of 7 for a C2, a length of 5, and a kilogram less than the table's first row.
+abbrev pub P10 : List ℕ
+P10 = with "A30018C1000C000009C40FA002BC01F400C8C2000700155CC00FA0"
+
+abbrev pub P11 : List ℕ
+P11 = with "A30018C1000C000009C40FA002BC01F400C8C2000500155CC00FA0"
+
+abbrev pub P13 : List ℕ
+P13 = with "A30018C1000C000009C40FA002BC01F400C8C2000600155CBF0FA0"
+
+-- Each is a booklet of one.
+pub sheet-one : (isOne (readWhole mostCharacters P1) ≡ true) × (isOne (readWhole mostCharacters P10) ≡ true) × (isOne (readWhole mostCharacters P11) ≡ true) × (isOne (readWhole mostCharacters P13) ≡ true)
+unfolding taken readWhole
+sheet-one = (refl, refl, refl, refl)
+
+pub tankers-one : (isOne (readWhole mostCharacters (tanker "C3")) ≡ true) × (isOne (readWhole mostCharacters (tanker "C5")) ≡ true)
+unfolding taken readWhole
+tankers-one = (refl, refl)
+
+pub timbers-one : (isOne (readWhole mostCharacters (tender "C1")) ≡ true) × (isOne (readWhole mostCharacters (tender "C6")) ≡ true) × (isOne (readWhole mostCharacters (coaster "C1")) ≡ true) × (isOne (readWhole mostCharacters (coaster "C6")) ≡ true)
+unfolding taken readWhole
+timbers-one = (refl, refl, refl, refl)
+
+-- The first is judged, and so are these.
+pub judged-0 : (numberOf (answered P1) ≡ 0) × (numberOf (answered (tanker "C3")) ≡ 0) × (numberOf (answered (tanker "C5")) ≡ 0)
+    × (numberOf (answered (tender "C1")) ≡ 0) × (numberOf (answered (tender "C6")) ≡ 0) × (numberOf (answered (coaster "C1")) ≡ 0) × (numberOf (answered (coaster "C6")) ≡ 0)
+unfolding answered
+judged-0 = (refl, refl, refl, refl, refl, refl, refl)
+
+-- P12, the empty text, is refused for the whole.
+empty-whole : (readWhole mostCharacters [] ≡ refused 5 0 0) × (room mostCharacters [] ≡ reportLength)
+unfolding taken readWhole room
+empty-whole = (refl, refl)
+
+pub empty-sent : {r : List ℕ} → answered [] ≡ refused 5 0 0 → reportOf (answered []) ≡ r
+    → (before : List ℕ) {n : ℕ} {after : List ℕ} → n ≡ number mostCharacters [] before → after ≡ written mostCharacters [] before → reportLength ≤ length before → (n ≡ 5) × (reportIn 0 after ≡ r)
+unfolding report
+empty-sent e f before N W h =
+    let s = whole-sent (record { numbered = N; left = W; enough = omega (arith, empty-whole .1) }) 5 0 0 (empty-whole .0) in
+    (s .0, s .1 ∙ sym (ap reportOf e ∙ report-refused 5 0 0) ∙ f)
