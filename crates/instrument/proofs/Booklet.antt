@@ -23,7 +23,6 @@ use Rattle.rules.proofs.booklet.Readings.{reading-limits}
 use Rattle.rules.proofs.booklet.PlaceFits.{line-fits}
 use Rattle.book.specs.Book.{tableOf}
 use Rattle.book.specs.declared.Table.{Table}
-use Rattle.frames.specs.FrameAnswers.{conditionRead}
 use Rattle.reading.specs.TextAnswers.{conditionLine}
 use Rattle.reading.specs.declared.ConditionLine.{ConditionLine}
 use Rattle.reading.specs.declared.Front.{Front}

@@ -1,10 +1,8 @@
 -- The condition line at the front of a text, one fact for each way out; and condition lines one after the other.
-use mathlib.Core.Path.{_≡_, refl, ap, ap₂, sym, _∙_}
-use mathlib.Core.Bool.{Bool, true, false}
+use mathlib.Core.Path.{_≡_, refl, ap, sym, _∙_}
 use mathlib.Core.List.{List, [], _∷_}
 use Prim.Native.Nat.{ℕ, _+_, _*_, _≤_, _<_}
 use native.Mathlib.Omega.{arith}
-use lib.Dec.{ltb}
 use lib.ListN.{length, take, drop}
 use lib.Seq.{take-all}
 use Rattle.rules.specs.Outcome.{got}
@@ -24,7 +22,6 @@ use Rattle.frames.specs.declared.ConditionRead.{ConditionRead}
 use Rattle.frames.specs.declared.ConditionRead.the-variants.{Refused}
 use Rattle.frames.proofs.Long.{long-condition}
 use Rattle.reading.specs.TextAnswers.{noLine, lineRead, conditionLine}
-use Rattle.reading.specs.declared.ConditionLine.{ConditionLine}
 
 -- The length in the head is that of the buffer's head.
 head-alike : (b out : List ℕ) → 3 ≤ length b → 3 ≤ length out → be2 (over b out) 1 ≡ be2 b 1

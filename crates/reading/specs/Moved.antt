@@ -1,8 +1,8 @@
 -- How far a text has been read, and how each line moves that on.
 use mathlib.Core.Path.{_≡_}
-use mathlib.Core.Bool.{Bool, true, false, cond, _&&_}
-use mathlib.Core.List.{List, []}
-use Prim.Native.Nat.{ℕ, _+_, _-_, _≤_, _<_}
+use mathlib.Core.Bool.{true, false, cond, _&&_}
+use mathlib.Core.List.{List}
+use Prim.Native.Nat.{ℕ, _+_, _-_, _<_}
 use lib.Dec.{leb, eqb}
 use lib.ListN.{length, set, take}
 use Rattle.rules.specs.Layout.{fewestRows, mostConditions}
@@ -12,7 +12,7 @@ use Rattle.book.specs.Book.{refusal, blankRow}
 use Rattle.book.specs.declared.Ship.{Ship}
 use Rattle.book.specs.declared.Row.{Row}
 use Rattle.book.specs.declared.Table.{Table}
-use Rattle.blocks.specs.BlockAnswers.{shipRead, rowRead, rowFault}
+use Rattle.blocks.specs.BlockAnswers.{shipRead, rowRead}
 use Rattle.blocks.specs.declared.ship.ShipRead.{ShipRead}
 use Rattle.blocks.specs.declared.ship.ShipRead.the-variants as ship
 use Rattle.blocks.specs.declared.row.RowRead.{RowRead}

@@ -11,7 +11,6 @@ use Rattle.text.specs.declared.LineRead.{LineRead}
 use Rattle.text.specs.declared.LineRead.the-variants as line
 use Rattle.frames.specs.FrameAnswers.{conditionRead}
 use Rattle.frames.specs.declared.ConditionRead.the-variants as condition
-use Rattle.reading.specs.declared.Front.{Front}
 use Rattle.reading.specs.declared.Answer.{Answer}
 use Rattle.reading.specs.declared.Answer.the-variants as answer
 use Rattle.reading.specs.declared.TextRead.{TextRead}

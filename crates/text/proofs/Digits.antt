@@ -13,7 +13,7 @@ use Rattle.rules.specs.Outcome.{Ans, refused, got, _>>=_}
 use Rattle.rules.specs.Walk.{nibble, unhex}
 use Rattle.rules.proofs.walk.Outcome.{bind-got, bind-refused}
 use Rattle.rules.proofs.layout.Fields.{both-true}
-use Rattle.text.specs.Line.{valueOf, digitOf, digitsUpTo, Digits, byteOf, pairOf}
+use Rattle.text.specs.Line.{valueOf, digitOf, digitsUpTo, Digits, pairOf}
 use Rattle.text.specs.declared.Pair.{Pair}
 use Rattle.text.specs.declared.Pair.the-variants as pair
 

@@ -1,5 +1,4 @@
 -- `room` meets its contract: 209 bytes, or 209 for each condition line.
-use mathlib.Core.Path.{ap, sym, _∙_}
 use native.Mathlib.Omega.{arith}
 use denote.Ref.{now}
 use Rattle.rules.specs.Layout.{mostCharacters}

@@ -1,5 +1,4 @@
 -- `finish` meets its contract: the 25th condition line, or case by case.
-use native.Mathlib.Omega.{arith}
 use borrow.Author.Tests.{eq-eqb, ne-eqb}
 use borrow.Author.Needs.{needs}
 use Rattle.reading.proofs.finish.Statement.{statement}

@@ -6,12 +6,10 @@ use native.Mathlib.Omega.{arith}
 use lib.ListN.{length, length-append}
 use borrow.Author.Tests.{leb-true}
 use Rattle.rules.specs.Text.{LF, hex, text, Lines}
-use Rattle.rules.specs.Blocks.{Ship, Row}
 use Rattle.rules.specs.Layout.{mostBytes, mostCharacters}
 use Rattle.rules.specs.Outcome.{refused, got}
 use Rattle.rules.specs.Met.{FirstNoLine, badLine, openEnd}
 use Rattle.rules.specs.Booklet.{countedLines, Booklet, readWhole, conditionAt}
-use Rattle.rules.specs.Answer.{answerAt}
 use Rattle.rules.proofs.layout.Lines.{length-hex, lines-sound}
 use Rattle.rules.proofs.layout.Parts.{full-length}
 use Rattle.rules.proofs.walk.Refusals.{Refusal, given, weaker, bind-refusal, test-cases}
@@ -19,7 +17,6 @@ use Rattle.rules.proofs.walk.BadLine.{lines-bad}
 use Rattle.rules.proofs.booklet.Counted.{countedLines-steps}
 use Rattle.rules.proofs.booklet.Refusals.{counted-refusal, bookFrames-refusal, conditionAt-refusal}
 use Rattle.rules.proofs.booklet.WholeText.{countedLines-sound, sound}
-use Rattle.rules.proofs.booklet.Conditions.{answer-refusal}
 
 -- ---- the lines of a text
 three-each : (ls : List (List ℕ)) → Lines ls → 3 * length ls ≤ length (text ls)
@@ -68,9 +65,6 @@ whole-fits most t h e = let x = whole-place most t .holds _ _ _ e in omega arith
 -- ---- of a condition
 pub condition-fits : (ln : ℕ) (l : List ℕ) {n m o : ℕ} → conditionAt ln l ≡ refused n m o → (m ≡ ln) × (o < 3 + mostBytes)
 condition-fits ln l e = let x = conditionAt-refusal ln l .holds _ _ _ e in omega arith
-
-pub answer-fits : (s : Ship) (vs : List Row) (ln : ℕ) (l : List ℕ) {n m o : ℕ} → answerAt s vs ln l ≡ refused n m o → (m ≤ ln) × (o < 3 + mostBytes)
-answer-fits s vs ln l e = let x = answer-refusal s vs ln l .holds _ _ _ e in omega arith
 
 -- The number of a condition line.
 pub line-fits : (most : ℕ) (t : List ℕ) (b : Booklet) → readWhole most t ≡ got b → (k : ℕ) → k < length (b .conditions) → 2 + length (b .rows) + k ≤ 65

@@ -1,10 +1,9 @@
 -- What a condition line of a booklet says, with the ship and the rows, is within the limits of a reading of one condition.
 use mathlib.Core.Path.{_≡_, refl, sym, ap, _∙_}
-use mathlib.Core.List.{List, []}
+use mathlib.Core.List.{List}
 use Prim.Native.Nat.{ℕ, _+_, _≤_, _<_}
 use lib.ListN.{length}
-use Rattle.rules.specs.Blocks.{block, conditionTag}
-use Rattle.rules.specs.Layout.{Condition, spellCondition, mostCharacters, Limits}
+use Rattle.rules.specs.Layout.{Condition, mostCharacters, Limits}
 use Rattle.rules.specs.Outcome.{got}
 use Rattle.rules.specs.Booklet.{Booklet, readWhole, conditionAt}
 use Rattle.rules.specs.Apart.{BeginA3, spellBooklet, lineAt, readingAt, alone}

@@ -5,12 +5,11 @@ use mathlib.Core.List.{List, [], _∷_}
 use Prim.Native.Nat.{ℕ, _+_, _≤_, _<_}
 use native.Mathlib.Omega.{arith}
 use lib.ListN.{length}
-use lib.Dec.{ltb, leb}
 use borrow.Author.Tests.{lt-ltb, le-ltb, le-leb, lt-leb, eq-eqb, ne-eqb}
-use Rattle.rules.specs.Blocks.{Layout, size, ok, values, ship, Row, row, conditionTag, Set, code, timber, weather}
-use Rattle.rules.specs.Layout.{fewestRows, mostRows, mostDepth, mostEntries, mostBytes}
-use Rattle.rules.specs.Outcome.{refused, got, test, _>>=_, _>>_}
-use Rattle.rules.specs.Walk.{Head, header, fixed, entries, among, chosen, weatherAt, loadAt, inside, conditionIn, fixedIn, shipFrame, rowIn, aRow, aCondition, frameOf, tableRow, theCondition, found, frameAt}
+use Rattle.rules.specs.Blocks.{Layout, size, ok, values, ship, Row, row, Set, code, timber, weather}
+use Rattle.rules.specs.Layout.{mostDepth, mostEntries, mostBytes}
+use Rattle.rules.specs.Outcome.{refused, got, _>>=_, _>>_}
+use Rattle.rules.specs.Walk.{Head, header, fixed, entries, among, chosen, weatherAt, loadAt, inside, conditionIn, fixedIn, shipFrame, rowIn, frameAt}
 use Rattle.rules.specs.Parts.{part, headAt}
 use Rattle.rules.proofs.walk.Outcome.{bind-got, bind-refused, test-got, test-refused}
 use Rattle.rules.proofs.walk.Conditions.{chosen-got}
@@ -139,31 +138,6 @@ module _ (ln k p : ℕ) (s : List ℕ) where
   pub frame-short : header ln 0 s ≡ refused 2 ln 0 → frameAt ln k p s ≡ refused 2 ln 0
   unfolding frameAt
   frame-short e = bind-refused _ e
-
-  module _ (t len : ℕ) (H : header ln 0 s ≡ got (headAt t len s)) where
-    pub frame-tag : (t ≡ row .tag → ⊥) → (t ≡ conditionTag → ⊥) → frameAt ln k p s ≡ refused 4 ln 0
-    unfolding frameAt frameOf
-    frame-tag m n = bind-got _ H ∙ bind-refused _ (rw (ne-eqb t (row .tag) m, ne-eqb t conditionTag n))
-
-    frame-a2 : t ≡ row .tag → frameAt ln k p s ≡ (test (ltb k mostRows) 4 ln 0 >> (rowIn ln p (headAt (row .tag) len s) >>= λ v. got (tableRow v)))
-    unfolding frameAt frameOf found rowIn fixedIn
-    frame-a2 e = bind-got _ H ∙ bind-got {a = aRow} _ (rw (eq-eqb t (row .tag) e))
-
-    pub frame-many : t ≡ row .tag → mostRows ≤ k → frameAt ln k p s ≡ refused 4 ln 0
-    frame-many e h = frame-a2 e ∙ test-refused _ _ _ _ (le-ltb k mostRows h)
-
-    pub frame-row : t ≡ row .tag → k < mostRows → frameAt ln k p s ≡ (rowIn ln p (headAt (row .tag) len s) >>= λ v. got (tableRow v))
-    frame-row e h = frame-a2 e ∙ test-got _ _ _ _ (lt-ltb k mostRows h)
-
-    frame-a3 : t ≡ conditionTag → frameAt ln k p s ≡ (test (leb fewestRows k) 4 ln 0 >> (conditionIn ln (headAt conditionTag len s) >>= λ c. got (theCondition c)))
-    unfolding frameAt frameOf found conditionIn
-    frame-a3 e = bind-got _ H ∙ bind-got {a = aCondition} _ (rw e)
-
-    pub frame-few : t ≡ conditionTag → k < fewestRows → frameAt ln k p s ≡ refused 4 ln 0
-    frame-few e h = frame-a3 e ∙ test-refused _ _ _ _ (lt-leb fewestRows k h)
-
-    pub frame-condition : t ≡ conditionTag → fewestRows ≤ k → frameAt ln k p s ≡ (conditionIn ln (headAt conditionTag len s) >>= λ c. got (theCondition c))
-    frame-condition e h = frame-a3 e ∙ test-got _ _ _ _ (le-leb fewestRows k h)
 
 -- ---- the ship's frame
 module _ (ln : ℕ) (s : List ℕ) where

@@ -1,12 +1,8 @@
 -- `pair_of` meets its contract: the table has the value of each character, and a digit's is below 16, so that the byte fits.
 use borrow.Author.Needs.{needs}
 use borrow.Author.Tests.{lt-ltb, le-ltb}
-use mathlib.Core.Path.{_≡_, sym, _∙_}
-use Prim.Native.Nat.{ℕ, _<_}
 use native.Mathlib.Omega.{arith}
-use lib.ListN.{length, getD}
-use denote.Ref.{now}
-use Rattle.text.specs.Line.{digitOf, pairOf}
+use Rattle.text.specs.Line.{pairOf}
 use Rattle.text.proofs.pair_of.Statement.{statement}
 use Rattle.text.proofs.pair_of.Tie as tie
 
