@@ -12,11 +12,11 @@ use Rattle.rules.specs.Layout.{mostCharacters}
 use Rattle.rules.specs.Outcome.{Ans, refused, got}
 use Rattle.rules.specs.Report.{Judgement, reportLength}
 use Rattle.rules.specs.Booklet.{readWhole}
-use Rattle.rules.specs.Apart.{AllowedWhole, spellBooklet, lineAt, alone, respelt}
+use Rattle.rules.specs.Apart.{AllowedWhole, spellBooklet, lineAt, alone, respelt, lineNumber}
 use Rattle.rules.specs.Answer.{answered, numberOf, reportOf, answer, inLine, room}
 use Rattle.rules.proofs.booklet.Room.{room-read}
 use Rattle.rules.proofs.booklet.Alone as alones
-use Rattle.instrument.specs.Reported.{reportIn, HasNumber, lineOf, SameButLine}
+use Rattle.instrument.specs.Reported.{reportIn, HasNumber, SameButLine}
 use Rattle.instrument.proofs.Numbered.{number-reported}
 use Rattle.instrument.proofs.TwoLines.{but-line}
 use Rattle.instrument.proofs.Replies.{read-back, allowed, Run, report-at}
@@ -37,12 +37,12 @@ module _ {t before : List ℕ} {n : ℕ} {after : List ℕ} (run : Run t before 
   room-alone = room-one allowed-alone refl
 
   pub sent-alone : {before′ : List ℕ} {n′ : ℕ} {after′ : List ℕ} → Run single before′ n′ after′
-      → SameButLine (reportIn k after) (reportIn 0 after′) × HasNumber n′ (reportIn k after) × (reportIn k after ≡ reportOf (inLine (lineOf (a .0) k) (answered single)))
+      → SameButLine (reportIn k after) (reportIn 0 after′) × HasNumber n′ (reportIn k after) × (reportIn k after ≡ reportOf (inLine (lineNumber (a .0) k) (answered single)))
   sent-alone run′ =
       let s = sent-one allowed-alone refl run′ in
-      let e = report-at run a k h ∙ ap reportOf (alones.each-as-alone (a .0) k h ∙ ap (inLine (lineOf (a .0) k)) (answer-one allowed-alone refl)) in
-      let m = number-reported (inLine (lineOf (a .0) k) (answered single)) in
-      (rw (e, s .1) (but-line (lineOf (a .0) k) (answered single)), rw (e, s .0) (m ∙ ap (λ i. hex (digits 1 i)) (number-in-line (lineOf (a .0) k) (answered single))), e)
+      let e = report-at run a k h ∙ ap reportOf (alones.each-as-alone (a .0) k h ∙ ap (inLine (lineNumber (a .0) k)) (answer-one allowed-alone refl)) in
+      let m = number-reported (inLine (lineNumber (a .0) k) (answered single)) in
+      (rw (e, s .1) (but-line (lineNumber (a .0) k) (answered single)), rw (e, s .0) (m ∙ ap (λ i. hex (digits 1 i)) (number-in-line (lineNumber (a .0) k) (answered single))), e)
 
   module _ (l : List ℕ) (tag : getD l 0 0 ≡ conditionTag) (B : Bytes l) (m : length (spellBooklet (respelt (a .0) k l)) ≤ mostCharacters) where
     abbrev other : List ℕ

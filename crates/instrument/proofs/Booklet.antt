@@ -8,10 +8,10 @@ use lib.Dec.{eqb}
 use lib.ListN.{length, take, drop, getD, length-append, length-drop, take-append-drop}
 use lib.Seq.{drop-drop, drop-append-seam, take-append-seam, length-take-le, drop-length}
 use borrow.Author.Tests.{eqb-true}
-use Rattle.rules.specs.Layout.{mostRows, mostCharacters}
+use Rattle.rules.specs.Layout.{mostRows, mostCharacters, Booklet}
 use Rattle.rules.specs.Outcome.{Ans, got}
 use Rattle.rules.specs.Walk.{linesFrom}
-use Rattle.rules.specs.Booklet.{Booklet, conditionAt}
+use Rattle.rules.specs.Booklet.{conditionAt}
 use Rattle.rules.specs.Apart.{lineAt}
 use Rattle.rules.specs.Parts.{part}
 use Rattle.rules.specs.Report.{Judgement, concat, reportLength}

@@ -14,7 +14,7 @@ use Rattle.rules.specs.Outcome.{Ans, refused, got, _>>=_}
 use Rattle.rules.specs.Walk.{linesFrom, readFrames, read}
 use Rattle.rules.specs.Report.{Judgement, noJudgement, report}
 use Rattle.rules.specs.Booklet.{counted, bookFrames, readWhole}
-use Rattle.rules.specs.Apart.{AllowedWhole, lineAt}
+use Rattle.rules.specs.Apart.{AllowedWhole, lineAt, lineNumber}
 use Rattle.rules.specs.Answer.{numberOf, answerAt, answers, answer}
 use Rattle.rules.proofs.walk.Outcome.{bind-got, bind-refused, test-got, test-refused}
 use Rattle.rules.proofs.walk.WholeText.{read-steps}
@@ -29,7 +29,7 @@ use Rattle.rules.proofs.booklet.Alone.{answer-at}
 use Rattle.rules.proofs.booklet.OnlyOverrun.{two-whole}
 use Rattle.rules.proofs.booklet.LineOverrun.{two-line}
 use Rattle.instrument.specs.Faults.{NoLineAt, WholeOverrunAt, LineOverrunAt}
-use Rattle.instrument.specs.Reported.{reportIn, HasNumber, lineOf}
+use Rattle.instrument.specs.Reported.{reportIn, HasNumber}
 use Rattle.instrument.proofs.FirstNumber.{first-of}
 use Rattle.instrument.proofs.LineReport.{Reports, by-line, has-refused, read-by, one-number}
 use Rattle.instrument.proofs.Replies.{read-back, by-whole, Run, whole-sent, numbered-first, line-report}
@@ -103,13 +103,13 @@ module _ {t before : List ℕ} {n : ℕ} {after : List ℕ} (run : Run t before 
       from v = two-whole mostCharacters t (v .0) (v .1) l 0 .1 (refl, v .2, v .3, v .4)
 
   module _ (a : AllowedWhole mostCharacters t) (k : ℕ) (h : k < length (a .0 .conditions)) where
-    abbrev here : Reports (a .0 .ship) (a .0 .rows) (lineOf (a .0) k) (lineAt (a .0) k) (reportIn k after)
+    abbrev here : Reports (a .0 .ship) (a .0 .rows) (lineNumber (a .0) k) (lineAt (a .0) k) (reportIn k after)
     here = line-report run a k h
 
-    met : (o : ℕ) → (answer (a .0) k ≡ refused 2 (lineOf (a .0) k) o) ↔ LineOverrunAt (a .0) k o
+    met : (o : ℕ) → (answer (a .0) k ≡ refused 2 (lineNumber (a .0) k) o) ↔ LineOverrunAt (a .0) k o
     met o = two-line mostCharacters t (a .0) (read-back a) k h o
 
-    sent : (o : ℕ) → LineOverrunAt (a .0) k o → HasNumber 2 (reportIn k after) × (reportIn k after ≡ report 2 (lineOf (a .0) k) o noJudgement)
+    sent : (o : ℕ) → LineOverrunAt (a .0) k o → HasNumber 2 (reportIn k after) × (reportIn k after ≡ report 2 (lineNumber (a .0) k) o noJudgement)
     sent o v = has-refused here (sym (answer-at (a .0) k h) ∙ met o .1 v)
 
     other : {X : Type 0} (m : ℕ) → m ≤ 8 → m ≢ 2 → HasNumber m (reportIn k after) → HasNumber 2 (reportIn k after) → X
@@ -119,10 +119,10 @@ module _ {t before : List ℕ} {n : ℕ} {after : List ℕ} (run : Run t before 
     found p =
         by-line here
         (λ m o g _ e.
-        let r = answer-refused (a .0 .ship) (a .0 .rows) (lineOf (a .0) k) (lineAt (a .0) k) e in
+        let r = answer-refused (a .0 .ship) (a .0 .rows) (lineNumber (a .0) k) (lineAt (a .0) k) e in
         let z : m ≡ 2 = one-number here m 2 (omega arith) (omega arith) (has-refused here r .0) p in
         (o, met o .0 (answer-at (a .0) k h ∙ (rw z at r))))
         (λ c. read-by here c (λ _ q. other 7 (omega arith) (λ z. omega arith) q p) (λ _ q. other 8 (omega arith) (λ z. omega arith) q p) (λ _ q. other 0 (omega arith) (λ z. omega arith) q p))
 
-    pub line-overrun : (HasNumber 2 (reportIn k after) ↔ ((o : ℕ) × LineOverrunAt (a .0) k o)) × ((o : ℕ) → LineOverrunAt (a .0) k o → reportIn k after ≡ report 2 (lineOf (a .0) k) o noJudgement)
+    pub line-overrun : (HasNumber 2 (reportIn k after) ↔ ((o : ℕ) × LineOverrunAt (a .0) k o)) × ((o : ℕ) → LineOverrunAt (a .0) k o → reportIn k after ≡ report 2 (lineNumber (a .0) k) o noJudgement)
     line-overrun = ((found, λ x. sent (x .0) (x .1) .0), λ o v. sent o v .1)

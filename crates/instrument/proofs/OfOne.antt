@@ -10,12 +10,12 @@ use borrow.Author.Tests.{eqb-true}
 use Rattle.rules.specs.Numbers.{Bytes}
 use Rattle.rules.specs.Text.{text, Lines}
 use Rattle.rules.specs.Blocks.{block, spellBlock, ship, Row, row, conditionTag}
-use Rattle.rules.specs.Layout.{Condition, Reading, spellCondition, rowFrames, frames, spellText, mostCharacters}
+use Rattle.rules.specs.Layout.{Condition, Reading, spellCondition, rowFrames, frames, spellText, mostCharacters, Booklet}
 use Rattle.rules.specs.Met.{behindRows}
 use Rattle.rules.specs.Outcome.{Ans, refused, got}
 use Rattle.rules.specs.Walk.{read}
 use Rattle.rules.specs.Report.{Judgement, reportLength}
-use Rattle.rules.specs.Booklet.{Booklet, readWhole}
+use Rattle.rules.specs.Booklet.{readWhole}
 use Rattle.rules.specs.Apart.{BeginA3, spellBooklet, AllowedWhole, AllowedLine, lineAt, readingAt}
 use Rattle.rules.specs.Answer.{answered, numberOf, reportOf, answers, answer, firstNumber, room}
 use Rattle.rules.proofs.layout.Lines.{lines-sound}

@@ -19,7 +19,7 @@ use Rattle.rules.specs.Cargo.{MadeCargo}
 use Rattle.rules.specs.Timber.{conditionBy, EasedSlot}
 use Rattle.rules.specs.Columns.{figureIn, verdictIn}
 use Rattle.rules.specs.Booklet.{conditionAt}
-use Rattle.rules.specs.Apart.{AllowedWhole, AllowedLine, lineAt, respelt}
+use Rattle.rules.specs.Apart.{AllowedWhole, AllowedLine, lineAt, respelt, lineNumber}
 use Rattle.rules.specs.Answer.{reportOf}
 use Rattle.rules.proofs.walk.Alike.{like-refused}
 use Rattle.rules.proofs.walk.OtherTag.{TestedAlike}
@@ -29,7 +29,7 @@ use Rattle.rules.proofs.booklet.Relined.{relined, condition-relined}
 use Rattle.rules.proofs.booklet.OtherTag.{line-alike, refused-alike, read-other}
 use Rattle.rules.proofs.booklet.Retagged.{made-cargo, in-timber}
 use Rattle.rules.proofs.booklet.Alone.{others-answered}
-use Rattle.instrument.specs.Reported.{reportIn, numberIn, HasNumber, RefusedLine, lineOf, SameButLine, RefusedWhole}
+use Rattle.instrument.specs.Reported.{reportIn, numberIn, HasNumber, RefusedLine, SameButLine, RefusedWhole}
 use Rattle.instrument.specs.OneTag.{OtherTagIn}
 use Rattle.instrument.proofs.LineReport.{Reports}
 use Rattle.instrument.proofs.TwoLines.{tested-alike, never-forgiven}
@@ -67,10 +67,10 @@ turned s = record { front = sym (s .front); behind = sym (s .behind) }
 module _ {t t′ before before′ : List ℕ} {n n′ : ℕ} {after after′ : List ℕ} (run : Run t before n after) (run′ : Run t′ before′ n′ after′)
     (a : AllowedWhole mostCharacters t) (a′ : AllowedWhole mostCharacters t′) (k k′ : ℕ) where
   abbrev ln : ℕ
-  ln = lineOf (a .0) k
+  ln = lineNumber (a .0) k
 
   abbrev ln′ : ℕ
-  ln′ = lineOf (a′ .0) k′
+  ln′ = lineNumber (a′ .0) k′
 
   module _ {x y : ℕ} (d : OtherTagIn x y (a .0) k (a′ .0) k′) where
     here : Reports (a .0 .ship) (a .0 .rows) ln (lineAt (a .0) k) (reportIn k after)

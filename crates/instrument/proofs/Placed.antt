@@ -12,7 +12,7 @@ use Rattle.rules.specs.Layout.{mostCharacters}
 use Rattle.rules.specs.Met.{behindRows}
 use Rattle.rules.specs.Places.{LineAt, firstLine, laterLine, Placed, tooLong, emptyText, atByte, unweighed}
 use Rattle.rules.specs.Booklet.{countedLines, bookFrames, readWhole}
-use Rattle.rules.specs.Apart.{linesOf, spellBooklet, AllowedWhole, lineAt, readingAt}
+use Rattle.rules.specs.Apart.{linesOf, spellBooklet, AllowedWhole, lineAt, readingAt, lineNumber}
 use Rattle.rules.proofs.layout.Lines.{length-hex, hex-no-lf, lines-sound}
 use Rattle.rules.proofs.layout.Parts.{full-length}
 use Rattle.rules.proofs.walk.Outcome.{bind-refused, test-got}
@@ -24,7 +24,7 @@ use Rattle.rules.proofs.booklet.Refusals.{counted-refusal, bookFrames-refusal}
 use Rattle.rules.proofs.booklet.WholeText.{countedLines-sound}
 use Rattle.rules.proofs.booklet.Frames.{framed, Lines-booklet}
 use Rattle.rules.proofs.booklet.Conditions.{answer-refused}
-use Rattle.instrument.specs.Reported.{reportIn, HasNumber, lineOf, RefusedAt}
+use Rattle.instrument.specs.Reported.{reportIn, HasNumber, RefusedAt}
 use Rattle.instrument.proofs.Weighings.{weighed-cases}
 use Rattle.instrument.proofs.LineReport.{by-line, has-refused, has-off, has-judged}
 use Rattle.instrument.proofs.Replies.{Run, line-report}
@@ -81,14 +81,14 @@ behind-at [] cs k i e = let z : i ≡ k = omega arith in rw z
 behind-at (v ∷ vs) cs k zero e = absurd (omega arith)
 behind-at (v ∷ vs) cs k (suc i) e = behind-at vs cs k i (omega arith)
 
-line-placed : {t : List ℕ} (a : AllowedWhole mostCharacters t) (k : ℕ) → k < length (a .0 .conditions) → (n o : ℕ) → 2 ≤ n → n ≤ 6 → o < length (lineAt (a .0) k) → Placed t n (lineOf (a .0) k) o
+line-placed : {t : List ℕ} (a : AllowedWhole mostCharacters t) (k : ℕ) → k < length (a .0 .conditions) → (n o : ℕ) → 2 ≤ n → n ≤ 6 → o < length (lineAt (a .0) k) → Placed t n (lineNumber (a .0) k) o
 unfolding spellBooklet
 line-placed a k h n o from to g =
     let b = a .0 in
     let w = a .1 in
     let x = behind-length (b .rows) (b .conditions) in
     let y = behind-at (b .rows) (b .conditions) k (length (b .rows) + k) refl in
-    rw (a .2) at (at-byte (linesOf b) (Lines-booklet b (framed w)) (w .long) (suc (length (b .rows) + k)) n (lineOf b k) o (omega arith) (omega arith) from to (rw y g))
+    rw (a .2) at (at-byte (linesOf b) (Lines-booklet b (framed w)) (w .long) (suc (length (b .rows) + k)) n (lineNumber b k) o (omega arith) (omega arith) from to (rw y g))
 
 some-bytes : (l : List ℕ) → getD l 0 0 ≡ conditionTag → 1 ≤ length l
 some-bytes [] e = absurd (omega arith)
@@ -100,7 +100,7 @@ placed-report run a k h =
     let g = some-bytes (lineAt (a .0) k) (q .tag) in
     by-line q
     (λ m o b i e.
-    inr (record { number = m; line = lineOf (a .0) k; offset = o; from2to8 = omega arith; reported = has-refused q (answer-refused _ _ _ _ e) .1; placed = line-placed a k h m o (b .0) (b .1) (omega arith); own = λ _. refl }))
+    inr (record { number = m; line = lineNumber (a .0) k; offset = o; from2to8 = omega arith; reported = has-refused q (answer-refused _ _ _ _ e) .1; placed = line-placed a k h m o (b .0) (b .1) (omega arith); own = λ _. refl }))
     (λ c. weighed-cases (readingAt (a .0) (c .0))
     (λ _ w. inr (record { number = 7; line = 0; offset = 0; from2to8 = omega arith; reported = has-off q c w .1; placed = unweighed (omega arith) (omega arith); own = λ z. absurd (omega arith) }))
     (λ _ w. inr (record { number = 8; line = 0; offset = 0; from2to8 = omega arith; reported = has-off q c w .1; placed = unweighed (omega arith) (omega arith); own = λ z. absurd (omega arith) }))

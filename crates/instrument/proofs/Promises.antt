@@ -15,7 +15,7 @@ use Rattle.rules.specs.Numbers.{Bytes, digits, twos}
 use Rattle.rules.specs.Text.{hex, text, Lines}
 use Rattle.rules.specs.Text as spelled
 use Rattle.rules.specs.Blocks.{conditionTag, code, timber, Tank}
-use Rattle.rules.specs.Layout.{mostCharacters}
+use Rattle.rules.specs.Layout.{mostCharacters, conditionLines}
 use Rattle.rules.specs.Outcome.{refused, got}
 use Rattle.rules.specs.Loading.{mass, moment, freeSurface, weighed}
 use Rattle.rules.specs.Leaves.{sumLeaves, SameSums}
@@ -27,8 +27,8 @@ use Rattle.rules.specs.Report.{judgement, noJudgement, concat, report, reportLe
 use Rattle.rules.specs.Columns.{figureIn, verdictIn}
 use Rattle.rules.specs.Met.{Overruns}
 use Rattle.rules.specs.Places.{Placed}
-use Rattle.rules.specs.Booklet.{conditionLines, readWhole}
-use Rattle.rules.specs.Apart.{spellBooklet, AllowedWhole, AllowedLine, LinesWithin, lineAt, readingAt, alone, respelt, Misplaced}
+use Rattle.rules.specs.Booklet.{readWhole}
+use Rattle.rules.specs.Apart.{spellBooklet, AllowedWhole, AllowedLine, LinesWithin, lineAt, readingAt, alone, respelt, Misplaced, lineNumber}
 use Rattle.rules.specs.Answer.{answered, numberOf, reportOf, inLine, number, bytesSent, written, limited}
 use Rattle.rules.specs.Answer as answers
 use Rattle.rules.proofs.walk.Retagged.{tanks-alike}
@@ -41,7 +41,7 @@ use Rattle.rules.proofs.bench.Bench.{P1, P1-output, bench-holds}
 use Rattle.rules.proofs.bench.CargoTank.{tanker, cargo-output, planner-holds}
 use Rattle.rules.proofs.bench.TimberDeck.{tender, tender-output, tender-timber-output, coaster, coaster-output, coaster-timber-output, timbers-hold}
 use Rattle.rules.proofs.bench.Regrouped.{regrouped, asOne, asGroup, reads-as, same-sums, two-texts}
-use Rattle.instrument.specs.Reported.{reportIn, numberIn, HasNumber, RefusedLine, lineOf, SameButLine, RefusedAt, RefusedWhole, EachAnswered}
+use Rattle.instrument.specs.Reported.{reportIn, numberIn, HasNumber, RefusedLine, SameButLine, RefusedAt, RefusedWhole, EachAnswered}
 use Rattle.instrument.specs.Faults.{NoLineAt, WholeOverrunAt, LineOverrunAt}
 use Rattle.instrument.specs.Outside.{Outside, TooHigh, Neither}
 use Rattle.instrument.specs.OneTag.{OtherTagIn}
@@ -145,7 +145,7 @@ module _ (text before : List ℕ) (n : ℕ) (after : List ℕ) (run : Judges tex
       number-is-first = first-sent ran a
 
       module _ (k : ℕ) (h : k < length (a .0 .conditions)) where
-        abbrev line : lines.Reports (a .0 .ship) (a .0 .rows) (lineOf (a .0) k) (lineAt (a .0) k) (reportIn k after)
+        abbrev line : lines.Reports (a .0 .ship) (a .0 .rows) (lineNumber (a .0) k) (lineAt (a .0) k) (reportIn k after)
         line = replies.line-report ran a k h
 
         -- ---- demand 1, for a condition
@@ -158,7 +158,7 @@ module _ (text before : List ℕ) (n : ℕ) (after : List ℕ) (run : Judges tex
         refusal-reported-7-8 c m w = lines.has-off line c w .1
 
         -- Report k has the number 2 exactly when in its line, the ship, the rows and this condition alone being read, a block is met that runs past its parent; then the report has that line and the block's offset.
-        pub two-in-line : (HasNumber 2 (reportIn k after) ↔ ((o : ℕ) × LineOverrunAt (a .0) k o)) × ((o : ℕ) → LineOverrunAt (a .0) k o → reportIn k after ≡ report 2 (lineOf (a .0) k) o noJudgement)
+        pub two-in-line : (HasNumber 2 (reportIn k after) ↔ ((o : ℕ) × LineOverrunAt (a .0) k o)) × ((o : ℕ) → LineOverrunAt (a .0) k o → reportIn k after ≡ report 2 (lineNumber (a .0) k) o noJudgement)
         two-in-line = faults.line-overrun ran a k h
 
         -- ---- demand 2: the figures are those of the reading
@@ -203,7 +203,7 @@ module _ (text before : List ℕ) (n : ℕ) (after : List ℕ) (run : Judges tex
         -- ---- each condition for itself
         -- Report k and the one report of the text with that condition alone are the same but for characters 9 to 12, which name the line; that text's number is report k's; and report k is the answer to that text with the line number of the long one.
         pub each-as-alone : (before′ : List ℕ) (n′ : ℕ) (after′ : List ℕ) → Judges (spellBooklet (alone (a .0) (lineAt (a .0) k))) before′ n′ after′ → reportLength ≤ length before′
-            → SameButLine (reportIn k after) (reportIn 0 after′) × HasNumber n′ (reportIn k after) × (reportIn k after ≡ reportOf (inLine (lineOf (a .0) k) (answered (spellBooklet (alone (a .0) (lineAt (a .0) k))))))
+            → SameButLine (reportIn k after) (reportIn 0 after′) × HasNumber n′ (reportIn k after) × (reportIn k after ≡ reportOf (inLine (lineNumber (a .0) k) (answered (spellBooklet (alone (a .0) (lineAt (a .0) k))))))
         each-as-alone before′ n′ after′ run′ room =
             let q = contract _ before′ n′ after′ .0 run′ in
             apart.sent-alone ran a k h (record { numbered = q .0; left = q .1; enough = omega (arith, apart.room-alone ran a k h) })

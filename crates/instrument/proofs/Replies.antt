@@ -6,11 +6,11 @@ use Prim.Native.Nat.{ℕ, _+_, _*_, _≤_, _<_}
 use native.Mathlib.Omega.{arith}
 use lib.ListN.{length, drop}
 use lib.Seq.{take-at, drop-at}
-use Rattle.rules.specs.Layout.{mostCharacters}
+use Rattle.rules.specs.Layout.{mostCharacters, Booklet}
 use Rattle.rules.specs.Outcome.{Ans, refused, got}
 use Rattle.rules.specs.Report.{noJudgement, report, reportLength}
-use Rattle.rules.specs.Booklet.{Booklet, readWhole}
-use Rattle.rules.specs.Apart.{BeginA3, AllowedWhole, lineAt}
+use Rattle.rules.specs.Booklet.{readWhole}
+use Rattle.rules.specs.Apart.{BeginA3, AllowedWhole, lineAt, lineNumber}
 use Rattle.rules.specs.Answer.{reportOf, answers, answer, firstNumber, number, written, room}
 use Rattle.rules.proofs.walk.Outcome.{refused-got}
 use Rattle.rules.proofs.answer.Steps.{report-refused}
@@ -21,7 +21,7 @@ use Rattle.rules.proofs.booklet.Room.{whole-refused, whole-got, first-number}
 use Rattle.rules.proofs.booklet.Reports.{report-stands, beyond-kept}
 use Rattle.rules.proofs.booklet.PlaceFits.{whole-fits}
 use Rattle.rules.proofs.booklet.Alone.{begin-at, answer-at}
-use Rattle.instrument.specs.Reported.{reportIn, lineOf, RefusedWhole, EachAnswered}
+use Rattle.instrument.specs.Reported.{reportIn, RefusedWhole, EachAnswered}
 use Rattle.instrument.proofs.LineReport.{Reports}
 
 -- ---- what is read
@@ -74,7 +74,7 @@ module _ {t before : List ℕ} {n : ℕ} {after : List ℕ} (run : Run t before 
     answered-each : EachAnswered t before n after
     answered-each = record { allowed = a; numbered = numbered-first; reported = report-at; beyond = beyond-at }
 
-    pub line-report : (k : ℕ) → k < length (a .0 .conditions) → Reports (a .0 .ship) (a .0 .rows) (lineOf (a .0) k) (lineAt (a .0) k) (reportIn k after)
+    pub line-report : (k : ℕ) → k < length (a .0 .conditions) → Reports (a .0 .ship) (a .0 .rows) (lineNumber (a .0) k) (lineAt (a .0) k) (reportIn k after)
     unfolding BeginA3
     line-report k h = let B = begin-at (a .0 .conditions) k (a .1 .begin) h in record { tag = B .0; bytes = B .1; reported = report-at k h ∙ ap reportOf (answer-at (a .0) k h) }
 

@@ -7,9 +7,9 @@ use native.Mathlib.Omega.{arith}
 use lib.Dec.{ltb}
 use lib.ListN.{length, drop}
 use borrow.Author.Tests.{ltb-true, ltb-false}
-use Rattle.rules.specs.Layout.{mostCharacters, mostConditions}
+use Rattle.rules.specs.Layout.{mostCharacters, mostConditions, conditionLines, Booklet}
 use Rattle.rules.specs.Outcome.{Ans, refused, got, _>>=_}
-use Rattle.rules.specs.Booklet.{conditionLines, countedLines, Booklet, bookFrames, readWhole}
+use Rattle.rules.specs.Booklet.{countedLines, bookFrames, readWhole}
 use Rattle.rules.specs.Report.{concat, reportLength}
 use Rattle.rules.specs.Answer.{reportOf, answers, firstNumber, number, bytesSent, written, room, roomFor, limited}
 use Rattle.rules.proofs.walk.Outcome.{bind-got, bind-refused}

@@ -9,10 +9,10 @@ use lib.Dec.{leb}
 use lib.ListN.{length, drop}
 use lib.Seq.{take-at, drop-at}
 use borrow.Author.Tests.{le-leb, lt-leb}
-use Rattle.rules.specs.Layout.{mostCharacters}
+use Rattle.rules.specs.Layout.{mostCharacters, conditionLines}
 use Rattle.rules.specs.Outcome.{refused, test, _>>=_, _>>_}
 use Rattle.rules.specs.Report.{noJudgement, report, reportLength}
-use Rattle.rules.specs.Booklet.{conditionLines, countedLines, bookFrames}
+use Rattle.rules.specs.Booklet.{countedLines, bookFrames}
 use Rattle.rules.specs.Answer.{reportOf, taken, numberFor, sent, over, number, bytesSent, written, room, limited}
 use Rattle.rules.proofs.walk.Outcome.{test-got, test-refused}
 use Rattle.rules.proofs.answer.Steps.{report-refused}

@@ -4,9 +4,8 @@ use mathlib.Core.Logic.{_⊎_}
 use mathlib.Core.List.{List}
 use Prim.Native.Nat.{ℕ, _+_, _≤_, _<_}
 use lib.ListN.{length}
-use Rattle.rules.specs.Layout.{mostCharacters}
+use Rattle.rules.specs.Layout.{mostCharacters, Booklet}
 use Rattle.rules.specs.Met.{Met, Overruns, FirstNoLine}
-use Rattle.rules.specs.Booklet.{Booklet}
 use Rattle.rules.specs.Apart.{linesOf, LinesWithin, lineAt, alone, MetWhole}
 
 -- 1: 'over 180,000 characters (line 0), else the first line that isn't a line'.

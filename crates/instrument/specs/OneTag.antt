@@ -3,7 +3,7 @@ use mathlib.Core.Path.{_≡_}
 use Prim.Native.Nat.{ℕ, _<_}
 use lib.ListN.{length}
 use Rattle.rules.specs.Tags.{OtherTagLine}
-use Rattle.rules.specs.Booklet.{Booklet}
+use Rattle.rules.specs.Layout.{Booklet}
 use Rattle.rules.specs.Apart.{lineAt}
 
 -- The two booklets have one ship and the same rows. Condition line k of the first and k′ of the second differ in one tag alone, x in the first and y in the second. All else of the two booklets is left open.

@@ -5,13 +5,13 @@ use Prim.Native.Nat.{ℕ, _+_, _*_, _≤_, _<_}
 use lib.ListN.{length, take, drop}
 use Rattle.rules.specs.Numbers.{digits}
 use Rattle.rules.specs.Text.{hex}
-use Rattle.rules.specs.Layout.{mostCharacters}
+use Rattle.rules.specs.Layout.{mostCharacters, Booklet}
 use Rattle.rules.specs.Outcome.{refused}
 use Rattle.rules.specs.Report.{noJudgement, report, reportLength}
 use Rattle.rules.specs.Columns.{characters}
 use Rattle.rules.specs.Places.{Placed}
-use Rattle.rules.specs.Booklet.{Booklet, readWhole}
-use Rattle.rules.specs.Apart.{AllowedWhole}
+use Rattle.rules.specs.Booklet.{readWhole}
+use Rattle.rules.specs.Apart.{AllowedWhole, lineNumber}
 use Rattle.rules.specs.Answer.{reportOf, answers, answer, firstNumber}
 
 -- Report k, from 0: the 209 characters from 209 k on.
@@ -29,10 +29,6 @@ HasNumber m r = numberIn r ≡ hex (digits 1 m)
 abbrev pub RefusedLine : List ℕ → Type 0
 RefusedLine r = (m : ℕ) × (2 ≤ m) × (m ≤ 6) × HasNumber m r
 
--- The line of condition k in the text, counted from 1.
-abbrev pub lineOf : Booklet → ℕ → ℕ
-lineOf b k = 2 + length (b .rows) + k
-
 -- Two reports are the same but for characters 9 to 12, which name the line.
 pub record SameButLine (r r′ : List ℕ) : Type 0 where
   pub front : take 8 r ≡ take 8 r′
@@ -46,7 +42,7 @@ pub record RefusedAt (text : List ℕ) (b : Booklet) (k : ℕ) (r : List ℕ) : 
   pub from2to8 : (2 ≤ number) × (number ≤ 8)
   pub reported : r ≡ report number line offset noJudgement
   pub placed : Placed text number line offset
-  pub own : number ≤ 6 → line ≡ lineOf b k
+  pub own : number ≤ 6 → line ≡ lineNumber b k
 
 -- ---- what is left in the buffer, with the number n
 -- The text is refused for the whole, with this number from 1 to 6 and at this line: that is in the one report, and every byte beyond it is as it was.

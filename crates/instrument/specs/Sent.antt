@@ -5,9 +5,9 @@ use Prim.Native.Nat.{ℕ, _+_, _*_, _≤_, _<_}
 use lib.ListN.{length, drop}
 use Rattle.rules.specs.Blocks.{Row}
 use Rattle.rules.specs.Blocks as rules
-use Rattle.rules.specs.Layout.{Condition, Reading, mostCharacters, Limits}
+use Rattle.rules.specs.Layout.{Condition, Reading, mostCharacters, Limits, Booklet}
 use Rattle.rules.specs.Outcome.{Ans, got}
-use Rattle.rules.specs.Booklet.{Booklet, readWhole, conditionAt}
+use Rattle.rules.specs.Booklet.{readWhole, conditionAt}
 use Rattle.rules.specs.Report.{Judgement, concat, reportLength}
 use Rattle.rules.specs.Answer.{judged, numberOf, reportOf, answerAt, answers, firstNumber}
 use Rattle.book.specs.Book.{plainShip, tableOf, judgementOf}

@@ -9,11 +9,11 @@ use lib.ListN.{length, replicate, length-append, length-map}
 use lib.Seq.{set-at}
 use borrow.Author.Tests.{ltb-true}
 use Rattle.rules.specs.Blocks as rules
-use Rattle.rules.specs.Layout.{fewestRows, mostRows}
+use Rattle.rules.specs.Layout.{fewestRows, mostRows, isCondition, Booklet}
 use Rattle.rules.specs.Outcome.{Ans, refused, got, _>>=_}
 use Rattle.rules.specs.Walk as walk
 use Rattle.rules.specs.Walk.{header, shipFrame, closed}
-use Rattle.rules.specs.Booklet.{isCondition, rowAt, onlyConditions, Behind, behindShip, Booklet, bookFrames}
+use Rattle.rules.specs.Booklet.{rowAt, onlyConditions, Behind, behindShip, bookFrames}
 use Rattle.rules.proofs.walk.Outcome.{bind-inv, test-inv, bind-got, bind-refused}
 use Rattle.rules.proofs.booklet.Counted.{only-a3, only-other, behind-a3, behind-row}
 use Rattle.book.specs.Book.{refusal, plainShip, shipOf, plainRow, blankRow, tableOf}

@@ -8,11 +8,11 @@ use lib.ListN.{length, drop, length-append}
 use lib.Seq.{drop-append-add}
 use Rattle.rules.specs.Text.{LF, hex, text}
 use Rattle.rules.specs.Blocks.{Layout, size, ok, spellBlock, Ship, ship, Row, row}
-use Rattle.rules.specs.Layout.{Rising}
+use Rattle.rules.specs.Layout.{Rising, Booklet}
 use Rattle.rules.specs.Outcome.{got}
 use Rattle.rules.specs.Walk.{linesFrom}
 use Rattle.rules.specs.Met.{behindRows, lead}
-use Rattle.rules.specs.Booklet.{Booklet, readWhole}
+use Rattle.rules.specs.Booklet.{readWhole}
 use Rattle.rules.specs.Apart.{spellBooklet}
 use Rattle.rules.proofs.layout.Fields.{Lawful, length-spell, ship-lawful, row-lawful}
 use Rattle.rules.proofs.layout.Lines.{length-hex, lines-got}

@@ -8,11 +8,11 @@ use lib.Dec.{leb, ltb, eqb}
 use lib.ListN.{length, getD, take}
 use lib.Seq.{take-all, length-take-le}
 use borrow.Author.Tests.{leb-true, leb-false}
-use Rattle.rules.specs.Layout.{fewestRows, mostRows}
+use Rattle.rules.specs.Layout.{fewestRows, mostRows, isCondition}
 use Rattle.rules.specs.Outcome.{Ans, refused, got, _>>=_}
 use Rattle.rules.specs.Walk as walk
 use Rattle.rules.specs.Walk.{header, closed}
-use Rattle.rules.specs.Booklet.{isCondition, rowAt}
+use Rattle.rules.specs.Booklet.{rowAt}
 use Rattle.rules.specs.Parts.{be2}
 use Rattle.rules.proofs.walk.Outcome.{bind-got, bind-refused}
 use Rattle.book.specs.Book.{refusal, Refuses}

@@ -5,9 +5,9 @@ use mathlib.Core.List.{List}
 use Prim.Native.Nat.{ℕ, _+_, _-_, _<_}
 use lib.Dec.{leb, eqb}
 use lib.ListN.{length, set, take}
-use Rattle.rules.specs.Layout.{fewestRows, mostConditions}
+use Rattle.rules.specs.Layout.{fewestRows, mostConditions, isCondition}
 use Rattle.rules.specs.Walk.{header, shipFrame}
-use Rattle.rules.specs.Booklet.{isCondition, rowAt}
+use Rattle.rules.specs.Booklet.{rowAt}
 use Rattle.book.specs.Book.{refusal, blankRow}
 use Rattle.book.specs.declared.Ship.{Ship}
 use Rattle.book.specs.declared.Row.{Row}

@@ -3,7 +3,8 @@ use mathlib.Core.List.{List, []}
 use Prim.Native.Nat.{ℕ, _+_, _*_}
 use lib.ListN.{length}
 use Rattle.rules.specs.Outcome.{Ans, refused, got}
-use Rattle.rules.specs.Booklet.{conditionLines, Booklet, bookFrames, conditionAt}
+use Rattle.rules.specs.Layout.{conditionLines, Booklet}
+use Rattle.rules.specs.Booklet.{bookFrames, conditionAt}
 use Rattle.book.specs.Book.{refusal, noRefusal, plainShip, tableOf}
 use Rattle.book.specs.declared.Refusal.{Refusal}
 use Rattle.text.specs.Line.{decoded, lineOf}

@@ -9,7 +9,7 @@ use lib.ListN.{length, take, drop, getD, length-set}
 use Rattle.rules.specs.Numbers.{Bytes}
 use Rattle.rules.specs.Text.{text, Lines}
 use Rattle.rules.specs.Blocks.{conditionTag, Ship, Row, code, timber, Tank}
-use Rattle.rules.specs.Layout.{Entries, Condition, mostCharacters, mostConditions}
+use Rattle.rules.specs.Layout.{Entries, Condition, mostCharacters, mostConditions, conditionLines, Booklet}
 use Rattle.rules.specs.Outcome.{refused, got}
 use Rattle.rules.specs.Walk.{linesFrom}
 use Rattle.rules.specs.Report.{reportLength}
@@ -17,8 +17,8 @@ use Rattle.rules.specs.Met.{lead, Met, Overruns}
 use Rattle.rules.specs.Places.{FramesFill, ConditionFills, SameBefore, lookedAt}
 use Rattle.rules.specs.Cargo.{MadeCargo, RetaggedLines, RetaggedLine}
 use Rattle.rules.specs.Timber.{TimberLines, TimberLine, conditionBy}
-use Rattle.rules.specs.Booklet.{conditionLines, Booklet, readWhole, conditionAt}
-use Rattle.rules.specs.Apart.{linesOf, spellBooklet, AllowedWhole, AllowedLine, LinesWithin, lineAt, alone, respelt, MetWhole, Misplaced}
+use Rattle.rules.specs.Booklet.{readWhole, conditionAt}
+use Rattle.rules.specs.Apart.{linesOf, spellBooklet, AllowedWhole, AllowedLine, LinesWithin, lineAt, alone, respelt, MetWhole, Misplaced, lineNumber}
 use Rattle.rules.specs.Answer.{reportOf, answered, answerAt, answers, answer, inLine, number, written, room}
 use Rattle.rules.proofs.walk.Retagged.{tanks-alike}
 use Rattle.rules.proofs.walk.Timber.{weathers-alike}
@@ -95,7 +95,7 @@ module _ (most : ℕ) (t : List ℕ) (b : Booklet) (e : readWhole most t ≡ got
 
   -- The text with that condition alone is read. Report k, the 209 characters from 209 k on, is the report of that text with the line number of the long one.
   pub each-as-alone : (readWhole most single ≡ got (alone b (lineAt b k)))
-      × ((buffer : List ℕ) → reportLength * length (b .conditions) ≤ length buffer → report t buffer k ≡ reportOf (inLine (2 + length (b .rows) + k) (answer (alone b (lineAt b k)) 0)))
+      × ((buffer : List ℕ) → reportLength * length (b .conditions) ≤ length buffer → report t buffer k ≡ reportOf (inLine (lineNumber b k) (answer (alone b (lineAt b k)) 0)))
   each-as-alone = (
     alones.alone-read b k h most t e,
     λ buffer r. reports.report-stands b most t buffer e (room-for buffer r) k h ∙ ap reportOf (alones.each-as-alone b k h),
@@ -108,7 +108,7 @@ module _ (most : ℕ) (t : List ℕ) (b : Booklet) (e : readWhole most t ≡ got
       let x = each-as-alone in
       let y = x .1 buffer r in
       let z = reports.report-stands (alone b (lineAt b k)) most single buffer′ (x .0) (omega (arith, room-read most single (alone b (lineAt b k)) (x .0))) 0 (omega arith) in
-      let w = in-line-only (2 + length (b .rows) + k) (answer (alone b (lineAt b k)) 0) in
+      let w = in-line-only (lineNumber b k) (answer (alone b (lineAt b k)) 0) in
       (ap (take 8) y ∙ w .0 ∙ sym (ap (take 8) z), ap (drop 12) y ∙ w .1 ∙ sym (ap (drop 12) z))
 
   -- Whatever begins with A3 may stand in that line instead, within the limit of characters: the text is read, and every other condition is answered as before ..
@@ -186,7 +186,7 @@ misplaced most t ls C ln l m = (two-misplaced most t ls C ln l m, four-misplaced
 
 -- A condition of a text that is read is refused with 2, in its line and at an offset, exactly where in the text with that condition alone a block is met there whose length runs past its parent, or one or two bytes where a block would begin.
 pub two-in-line : (most : ℕ) (t : List ℕ) (b : Booklet) → readWhole most t ≡ got b → (k : ℕ) → k < length (b .conditions) → (o : ℕ)
-    → (answer b k ≡ refused 2 (2 + length (b .rows) + k) o) ↔ ((left : List ℕ) × Met (linesOf (alone b (lineAt b k))) (2 + length (b .rows)) o left × Overruns left)
+    → (answer b k ≡ refused 2 (lineNumber b k) o) ↔ ((left : List ℕ) × Met (linesOf (alone b (lineAt b k))) (2 + length (b .rows)) o left × Overruns left)
 two-in-line most t b e k h o = two-line most t b e k h o
 
 -- A refusal for the whole depends on nothing behind the line that it names. Two such texts have the same lines before that one; it has one length in both, and the same bytes as far as the refusal looks: to the end of its head for 2, 4 and 3, of its frame for 6.

@@ -9,10 +9,10 @@ use Rattle.rules.specs.Text as characters
 use Rattle.rules.specs.Blocks as blocks
 use Rattle.rules.specs.Report as lines
 use Rattle.rules.specs.Blocks.{Ship, Row}
-use Rattle.rules.specs.Layout.{Reading, mostCharacters}
+use Rattle.rules.specs.Layout.{Reading, mostCharacters, conditionLines, Booklet}
 use Rattle.rules.specs.Outcome.{Ans, refused, got, test, _>>=_, _>>_}
 use Rattle.rules.specs.Walk.{read}
-use Rattle.rules.specs.Booklet.{conditionLines, counted, countedLines, rowAt, onlyConditions, behindShip, Booklet, bookFrames, conditionAt}
+use Rattle.rules.specs.Booklet.{counted, countedLines, rowAt, onlyConditions, behindShip, bookFrames, conditionAt}
 use Rattle.rules.specs.Loading.{weighed}
 use Rattle.rules.specs.Curve.{loaded}
 use Rattle.rules.specs.Report.{Judgement, judgement, noJudgement, concat, report, reportLength}

@@ -8,11 +8,10 @@ use lib.ListN.{length, getD, set}
 use Rattle.rules.specs.Numbers.{Bytes}
 use Rattle.rules.specs.Text.{text, Lines}
 use Rattle.rules.specs.Blocks.{block, ok, Ship, ship, Row, row, conditionTag}
-use Rattle.rules.specs.Layout.{Condition, Reading, spellCondition, Rising, fewestRows, mostRows, mostConditions, ConditionLimits}
+use Rattle.rules.specs.Layout.{Condition, Reading, spellCondition, Rising, fewestRows, mostRows, mostConditions, ConditionLimits, conditionLines, Booklet}
 use Rattle.rules.specs.Met.{Led, lead}
-use Rattle.rules.specs.Booklet.{conditionLines, Booklet}
 
--- Lines that begin with A3, whatever else they hold.
+-- Lines of bytes that begin with A3, whatever else they hold.
 unfoldable pub BeginA3 : List (List ℕ) → Type 0
 BeginA3 [] = Unit {0}
 BeginA3 (l ∷ ls) = (getD l 0 0 ≡ conditionTag) × Bytes l × BeginA3 ls
@@ -50,9 +49,12 @@ abbrev pub AllowedLine : List ℕ → Type 0
 AllowedLine l = (c : Condition) × ConditionLimits c × (block conditionTag (spellCondition c) ≡ l)
 
 -- ---- one condition of a booklet
--- Condition line k, from 0; its number in the text; the reading of it where it says this condition.
+-- Condition line k, from 0; its number in the text, from 1; the reading of it where it says this condition.
 abbrev pub lineAt : Booklet → ℕ → List ℕ
 lineAt b k = getD (b .conditions) k []
+
+abbrev pub lineNumber : Booklet → ℕ → ℕ
+lineNumber b k = 2 + length (b .rows) + k
 
 abbrev pub readingAt : Booklet → Condition → Reading
 readingAt b c = record { ship = b .ship; rows = b .rows; condition = c }

@@ -1,25 +1,16 @@
 -- Request 3, 'The whole booklet in one go': a ship and its rows, and behind them up to 24 condition lines. What is refused as a whole, in its order, and what each condition line says for itself.
 -- Each step gives what it read, or the refusal with its number, line and offset.
-use mathlib.Core.Bool.{Bool, true, false, _&&_}
+use mathlib.Core.Bool.{true, false, _&&_}
 use mathlib.Core.List.{List, [], _∷_}
-use Prim.Native.Nat.{ℕ, suc, _+_, _-_}
+use Prim.Native.Nat.{ℕ, _+_, _-_}
 use lib.Dec.{leb, ltb, eqb}
-use lib.ListN.{length, getD}
-use Rattle.rules.specs.Blocks.{Ship, Row, row, conditionTag}
-use Rattle.rules.specs.Layout.{Condition, fewestRows, mostRows, mostConditions}
+use lib.ListN.{length}
+use Rattle.rules.specs.Blocks.{Row, row}
+use Rattle.rules.specs.Layout.{Condition, Booklet, isCondition, fewestRows, mostRows, mostConditions}
 use Rattle.rules.specs.Outcome.{Ans, refused, got, test, _>>=_, _>>_}
 use Rattle.rules.specs.Walk.{header, linesFrom, conditionIn, rowIn, shipFrame, closed}
 
 -- ---- the lines
--- 'A condition line is one that begins with A3.'
-abbrev pub isCondition : List ℕ → Bool
-isCondition l = eqb (getD l 0 0) conditionTag
-
--- How many there are, wherever they stand.
-unfoldable pub conditionLines : List (List ℕ) → ℕ
-conditionLines [] = 0
-conditionLines (l ∷ ls) = elim (isCondition l) [ true ↦ suc (conditionLines ls) | false ↦ conditionLines ls ]
-
 -- 5: 'a 25th condition line gives 5 there'. n of them may come yet, and the first line has the number ln.
 unfoldable pub counted : ℕ → ℕ → List (List ℕ) → Ans (Unit {0})
 counted ln n [] = got tt
@@ -59,12 +50,6 @@ behindShip (l ∷ ls) ln k p = elim (isCondition l && leb fewestRows k) [
   | true ↦ (onlyConditions (ln + 1) ls >>= λ u. got (record { rows = []; conditions = l ∷ ls }))
   | false ↦ (rowAt ln k p l >>= λ v. behindShip ls (ln + 1) (k + 1) (v .mass) >>= λ x. got (record { rows = v ∷ x .rows; conditions = x .conditions }))
 ]
-
--- What a text says as a whole: the ship, the rows, and the condition lines as they stand. The first of these has the number 2 + length rows, and each further one the next.
-pub record Booklet : Type 0 where
-  pub ship : Ship
-  pub rows : List Row
-  pub conditions : List (List ℕ)
 
 -- 5: 'empty text'.
 unfoldable pub bookFrames : List (List ℕ) → Ans Booklet

@@ -1,9 +1,10 @@
--- The layout with no reader in it: what a text can say (`Reading`), how that is spelled, its limits, and so which texts are allowed.
+-- The layout with no reader in it: what a text can say (`Reading`, of one condition, and `Booklet`), how that is spelled, its limits, and so which texts are allowed.
 use mathlib.Core.Path.{_≡_}
 use mathlib.Core.Bool.{Bool, true, false}
 use mathlib.Core.List.{List, [], _∷_, _++_}
 use Prim.Native.Nat.{ℕ, suc, _+_, max, _≤_, _<_}
-use lib.ListN.{length}
+use lib.Dec.{eqb}
+use lib.ListN.{length, getD}
 use Rattle.rules.specs.Text.{text}
 use Rattle.rules.specs.Blocks.{block, ok, spellBlock, Ship, ship, Row, row, conditionTag, Weather, okWeather, spellWeather, Load, Values, entry, groupTag}
 
@@ -18,11 +19,27 @@ pub record Condition : Type 0 where
   pub weather : Weather
   pub load : Entries
 
--- 'A text is one A1, 2 to 40 A2, one A3, in that order.' (A text of several A3 is a booklet: Apart.)
+-- 'A text is one A1, 2 to 40 A2, one A3, in that order.'
 pub record Reading : Type 0 where
   pub ship : Ship
   pub rows : List Row
   pub condition : Condition
+
+-- ---- a booklet (request 3)
+-- What a text says as a whole: the ship, the rows, and the condition lines as they stand. The first of these has the number 2 + length rows, and each further one the next.
+pub record Booklet : Type 0 where
+  pub ship : Ship
+  pub rows : List Row
+  pub conditions : List (List ℕ)
+
+-- 'A condition line is one that begins with A3.'
+abbrev pub isCondition : List ℕ → Bool
+isCondition l = eqb (getD l 0 0) conditionTag
+
+-- How many there are, wherever they stand.
+unfoldable pub conditionLines : List (List ℕ) → ℕ
+conditionLines [] = 0
+conditionLines (l ∷ ls) = elim (isCondition l) [ true ↦ suc (conditionLines ls) | false ↦ conditionLines ls ]
 
 -- ---- how it is spelled
 unfoldable pub spell : Entries → List ℕ

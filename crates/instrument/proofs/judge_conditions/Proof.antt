@@ -4,7 +4,7 @@ use mathlib.Core.Path.{_≡_, refl, sym, _∙_}
 use native.Mathlib.Omega.{arith}
 use lib.ListN.{length}
 use denote.Ref.{now}
-use Rattle.rules.specs.Booklet.{Booklet}
+use Rattle.rules.specs.Layout.{Booklet}
 use Rattle.rules.proofs.layout.Parts.{length-part}
 use Rattle.reading.specs.declared.Front.{Front}
 use Rattle.reading.proofs.ConditionLines.{room-kept}

@@ -10,7 +10,8 @@ use Rattle.rules.specs.Text.{LF, hex, text}
 use Rattle.rules.specs.Blocks.{Ship, ship, Row, row, spellBlock, conditionTag}
 use Rattle.rules.specs.Outcome.{refused, got}
 use Rattle.rules.specs.Met.{behindRows, lead}
-use Rattle.rules.specs.Booklet.{Booklet, readWhole}
+use Rattle.rules.specs.Layout.{Booklet}
+use Rattle.rules.specs.Booklet.{readWhole}
 use Rattle.rules.specs.Apart.{BeginA3, spellBooklet, lineAt, alone, respelt}
 use Rattle.rules.specs.Answer.{answerAt, answersFrom, answer, inLine}
 use Rattle.rules.proofs.booklet.WholeText.{sound, complete}

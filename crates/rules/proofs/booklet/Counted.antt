@@ -9,11 +9,11 @@ use lib.ListN.{length, getD}
 use borrow.Author.Tests.{ltb-true, lt-ltb, le-leb, eq-eqb}
 use Rattle.rules.specs.Text.{text, Lines}
 use Rattle.rules.specs.Blocks.{ship, row, conditionTag, spellBlock, block, Ship, Row}
-use Rattle.rules.specs.Layout.{fewestRows, mostConditions}
+use Rattle.rules.specs.Layout.{fewestRows, mostConditions, isCondition, conditionLines}
 use Rattle.rules.specs.Outcome.{got, test, _>>=_, _>>_}
 use Rattle.rules.specs.Walk.{linesFrom, closed}
 use Rattle.rules.specs.Met.{behindRows, lead}
-use Rattle.rules.specs.Booklet.{isCondition, conditionLines, counted, countedLines, rowAt, onlyConditions, behindShip}
+use Rattle.rules.specs.Booklet.{counted, countedLines, rowAt, onlyConditions, behindShip}
 use Rattle.rules.specs.Apart.{BeginA3}
 use Rattle.rules.proofs.layout.Lines.{lines-got}
 use Rattle.rules.proofs.walk.Outcome.{test-inv, bind-got, test-got}

@@ -9,11 +9,11 @@ use lib.Dec.{leb, eqb}
 use lib.ListN.{length, getD}
 use borrow.Author.Tests.{eqb-true}
 use Rattle.rules.specs.Blocks.{Ship, Row, row, conditionTag}
-use Rattle.rules.specs.Layout.{fewestRows}
+use Rattle.rules.specs.Layout.{fewestRows, isCondition}
 use Rattle.rules.specs.Outcome.{Ans, refused, got}
 use Rattle.rules.specs.Walk.{shipFrame}
 use Rattle.rules.specs.Places.{SameBefore, lookedAt}
-use Rattle.rules.specs.Booklet.{isCondition, rowAt, onlyConditions, behindShip, bookFrames, readWhole, conditionAt}
+use Rattle.rules.specs.Booklet.{rowAt, onlyConditions, behindShip, bookFrames, readWhole, conditionAt}
 use Rattle.rules.specs.Apart.{LinesWithin}
 use Rattle.rules.specs.Answer.{answerAt}
 use Rattle.rules.proofs.walk.Outcome.{bind-first, bind-last, bind-got, bind-refused, test-refused}

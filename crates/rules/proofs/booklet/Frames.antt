@@ -10,11 +10,11 @@ use borrow.Author.Tests.{ltb-true, leb-true, eqb-true, lt-ltb, le-leb}
 use Rattle.rules.specs.Numbers.{Bytes, full}
 use Rattle.rules.specs.Text.{Lines}
 use Rattle.rules.specs.Blocks.{block, spellValues, ok, spellBlock, ship, Row, row, conditionTag}
-use Rattle.rules.specs.Layout.{Rising, fewestRows, mostRows}
+use Rattle.rules.specs.Layout.{Rising, fewestRows, mostRows, isCondition, Booklet}
 use Rattle.rules.specs.Outcome.{got}
 use Rattle.rules.specs.Walk.{rowIn, closed}
 use Rattle.rules.specs.Met.{behindRows}
-use Rattle.rules.specs.Booklet.{isCondition, rowAt, onlyConditions, Behind, behindShip, Booklet, bookFrames}
+use Rattle.rules.specs.Booklet.{rowAt, onlyConditions, Behind, behindShip, bookFrames}
 use Rattle.rules.specs.Apart.{BeginA3, linesOf, WholeLimits}
 use Rattle.rules.proofs.layout.Fields.{length-fits, ship-lawful, row-lawful, both-true}
 use Rattle.rules.proofs.walk.Outcome.{refused-got, bind-inv, test-inv, bind-got, test-got}

@@ -5,12 +5,12 @@ use Prim.Native.Nat.{ℕ, _<_}
 use native.Mathlib.Omega.{arith}
 use lib.ListN.{length}
 use Rattle.rules.specs.Blocks.{ship, Row, row}
-use Rattle.rules.specs.Layout.{Condition, Rising}
+use Rattle.rules.specs.Layout.{Condition, Rising, Booklet}
 use Rattle.rules.specs.Outcome.{got}
 use Rattle.rules.specs.Walk.{linesFrom}
 use Rattle.rules.specs.Met.{behindRows, lead}
 use Rattle.rules.specs.Places.{FramesFill, ConditionFills}
-use Rattle.rules.specs.Booklet.{Booklet, readWhole, conditionAt}
+use Rattle.rules.specs.Booklet.{readWhole, conditionAt}
 use Rattle.rules.specs.Apart.{BeginA3, linesOf, spellBooklet, lineAt}
 use Rattle.rules.proofs.layout.Fields.{ship-lawful, row-lawful}
 use Rattle.rules.proofs.layout.Lines.{lines-got}

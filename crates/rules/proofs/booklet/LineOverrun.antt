@@ -7,7 +7,8 @@ use native.Mathlib.Omega.{arith}
 use lib.ListN.{length}
 use Rattle.rules.specs.Outcome.{refused, got}
 use Rattle.rules.specs.Met.{Met, Overruns}
-use Rattle.rules.specs.Booklet.{Booklet, readWhole, conditionAt}
+use Rattle.rules.specs.Layout.{Booklet}
+use Rattle.rules.specs.Booklet.{readWhole, conditionAt}
 use Rattle.rules.specs.Apart.{BeginA3, linesOf, lineAt, alone}
 use Rattle.rules.specs.Answer.{answer}
 use Rattle.rules.proofs.walk.Outcome.{bind-last, bind-refused}

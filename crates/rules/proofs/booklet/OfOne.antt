@@ -5,11 +5,11 @@ use Prim.Native.Nat.{ℕ, _+_, _≤_}
 use native.Mathlib.Omega.{arith}
 use lib.ListN.{length, getD}
 use Rattle.rules.specs.Blocks.{Ship, Row, conditionTag}
-use Rattle.rules.specs.Layout.{Condition, Rising, fewestRows, mostRows, mostCharacters}
+use Rattle.rules.specs.Layout.{Condition, Rising, fewestRows, mostRows, mostCharacters, Booklet}
 use Rattle.rules.specs.Outcome.{Ans, refused, got, _>>=_}
 use Rattle.rules.specs.Walk.{closed, after, tail, readFrames, read}
 use Rattle.rules.specs.Met.{Led, behindRows, lead}
-use Rattle.rules.specs.Booklet.{Booklet, readWhole, conditionAt}
+use Rattle.rules.specs.Booklet.{readWhole, conditionAt}
 use Rattle.rules.specs.Apart.{BeginA3, linesOf, spellBooklet, lineAt, readingAt}
 use Rattle.rules.specs.Answer.{answered, answerAt, answersFrom, answers}
 use Rattle.rules.proofs.walk.Outcome.{bind-got, bind-refused, bind-cong, bind-bind}

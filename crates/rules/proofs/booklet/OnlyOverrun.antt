@@ -11,11 +11,11 @@ use borrow.Author.Tests.{leb-true, leb-false, eqb-true, eqb-false}
 use Rattle.rules.specs.Numbers.{Bytes}
 use Rattle.rules.specs.Text.{Lines}
 use Rattle.rules.specs.Blocks.{ok, spellBlock, Ship, ship, Row, conditionTag}
-use Rattle.rules.specs.Layout.{Rising, fewestRows, mostRows}
+use Rattle.rules.specs.Layout.{Rising, fewestRows, mostRows, isCondition}
 use Rattle.rules.specs.Outcome.{refused}
 use Rattle.rules.specs.Walk.{shipFrame, closed}
 use Rattle.rules.specs.Met.{Led, behindRows, lead, Overruns}
-use Rattle.rules.specs.Booklet.{isCondition, rowAt, onlyConditions, behindShip, bookFrames, readWhole}
+use Rattle.rules.specs.Booklet.{rowAt, onlyConditions, behindShip, bookFrames, readWhole}
 use Rattle.rules.specs.Apart.{BeginA3, LinesWithin, MetWhole, firstLine, dueRow, behindConditions}
 use Rattle.rules.proofs.layout.Fields.{both-true}
 use Rattle.rules.proofs.layout.Parts.{full-length}

@@ -10,11 +10,11 @@ use lib.ListN.{length, getD, set}
 use borrow.Author.Tests.{ne-eqb}
 use Rattle.rules.specs.Text.{text, Lines}
 use Rattle.rules.specs.Blocks.{block, Ship, Row, row, conditionTag}
-use Rattle.rules.specs.Layout.{Entries, Condition, fewestRows, mostRows, mostBytes, mostConditions}
+use Rattle.rules.specs.Layout.{Entries, Condition, fewestRows, mostRows, mostBytes, mostConditions, isCondition, Booklet}
 use Rattle.rules.specs.Outcome.{refused, got, test, _>>=_, _>>_}
 use Rattle.rules.specs.Walk.{header, inside, conditionIn, shipFrame, rowIn, aRow, aCondition, frameOf, closed}
 use Rattle.rules.specs.Tags.{OtherTagLines, asFrame, inCondition, afterLine, OtherTagLine, inBody}
-use Rattle.rules.specs.Booklet.{isCondition, counted, rowAt, onlyConditions, Behind, behindShip, Booklet, bookFrames, readWhole, conditionAt}
+use Rattle.rules.specs.Booklet.{counted, rowAt, onlyConditions, Behind, behindShip, bookFrames, readWhole, conditionAt}
 use Rattle.rules.specs.Apart.{lineAt, respelt}
 use Rattle.rules.specs.Answer.{answerAt}
 use Rattle.rules.proofs.layout.OtherTag.{same-length, as-many-characters, Lines-alike}

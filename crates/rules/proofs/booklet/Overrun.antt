@@ -9,11 +9,11 @@ use lib.Dec.{leb}
 use lib.ListN.{length, getD}
 use borrow.Author.Tests.{leb-true, le-leb, eqb-true, ne-eqb}
 use Rattle.rules.specs.Blocks.{spellBlock, Ship, Row, row, conditionTag}
-use Rattle.rules.specs.Layout.{Rising, fewestRows, mostRows}
+use Rattle.rules.specs.Layout.{Rising, fewestRows, mostRows, isCondition}
 use Rattle.rules.specs.Outcome.{refused}
 use Rattle.rules.specs.Walk.{closed}
 use Rattle.rules.specs.Met.{Led, behindRows, lead, Overruns}
-use Rattle.rules.specs.Booklet.{isCondition, rowAt, onlyConditions, behindShip, bookFrames}
+use Rattle.rules.specs.Booklet.{rowAt, onlyConditions, behindShip, bookFrames}
 use Rattle.rules.specs.Apart.{BeginA3, MetWhole, firstLine, dueRow, behindConditions}
 use Rattle.rules.proofs.layout.Parts.{header-overrun}
 use Rattle.rules.proofs.walk.Outcome.{bind-got, bind-refused}

@@ -6,10 +6,10 @@ use native.Mathlib.Omega.{arith}
 use lib.ListN.{length, length-append}
 use borrow.Author.Tests.{leb-true}
 use Rattle.rules.specs.Text.{LF, hex, text, Lines}
-use Rattle.rules.specs.Layout.{mostBytes, mostCharacters}
+use Rattle.rules.specs.Layout.{mostBytes, mostCharacters, Booklet}
 use Rattle.rules.specs.Outcome.{refused, got}
 use Rattle.rules.specs.Met.{FirstNoLine, badLine, openEnd}
-use Rattle.rules.specs.Booklet.{countedLines, Booklet, readWhole, conditionAt}
+use Rattle.rules.specs.Booklet.{countedLines, readWhole, conditionAt}
 use Rattle.rules.proofs.layout.Lines.{length-hex, lines-sound}
 use Rattle.rules.proofs.layout.Parts.{full-length}
 use Rattle.rules.proofs.walk.Refusals.{Refusal, given, weaker, bind-refusal, test-cases}

@@ -3,9 +3,9 @@ use mathlib.Core.Path.{_≡_, refl, sym, ap, _∙_}
 use mathlib.Core.List.{List}
 use Prim.Native.Nat.{ℕ, _+_, _≤_, _<_}
 use lib.ListN.{length}
-use Rattle.rules.specs.Layout.{Condition, mostCharacters, Limits}
+use Rattle.rules.specs.Layout.{Condition, mostCharacters, Limits, Booklet}
 use Rattle.rules.specs.Outcome.{got}
-use Rattle.rules.specs.Booklet.{Booklet, readWhole, conditionAt}
+use Rattle.rules.specs.Booklet.{readWhole, conditionAt}
 use Rattle.rules.specs.Apart.{BeginA3, spellBooklet, lineAt, readingAt, alone}
 use Rattle.rules.proofs.walk.Outcome.{bind-got}
 use Rattle.rules.proofs.walk.WholeText as texts

@@ -8,9 +8,9 @@ use native.Mathlib.Omega.{arith}
 use lib.Dec.{leb}
 use lib.ListN.{length}
 use borrow.Author.Tests.{leb-true}
-use Rattle.rules.specs.Layout.{fewestRows, mostBytes}
+use Rattle.rules.specs.Layout.{fewestRows, mostBytes, isCondition}
 use Rattle.rules.specs.Walk.{conditionIn}
-use Rattle.rules.specs.Booklet.{isCondition, counted, countedLines, rowAt, onlyConditions, behindShip, bookFrames, readWhole, conditionAt}
+use Rattle.rules.specs.Booklet.{counted, countedLines, rowAt, onlyConditions, behindShip, bookFrames, readWhole, conditionAt}
 use Rattle.rules.proofs.walk.Heads.{header-splits}
 use Rattle.rules.proofs.walk.Refusals.{Refusal, given, plain, weaker, bind-refusal, test-cases, test-refusal, NumberFrom, At, Between, header-refusal, inside-refusal, row-refusal, shipFrame-refusal, closed-refusal}
 use Rattle.rules.proofs.walk.BadLine.{lines-bad}

@@ -6,11 +6,11 @@ use native.Mathlib.Omega.{arith}
 use lib.ListN.{length, take, drop, length-map, List·getD-map}
 use lib.Seq.{drop-append-seam}
 use Rattle.rules.specs.Blocks.{Ship, Row}
-use Rattle.rules.specs.Layout.{Condition}
+use Rattle.rules.specs.Layout.{Condition, Booklet}
 use Rattle.rules.specs.Outcome.{Ans, refused, got}
 use Rattle.rules.specs.Report.{concat, reportLength}
 use Rattle.rules.specs.Columns.{characters}
-use Rattle.rules.specs.Booklet.{Booklet, readWhole, conditionAt}
+use Rattle.rules.specs.Booklet.{readWhole, conditionAt}
 use Rattle.rules.specs.Answer.{reportOf, answerAt, answersFrom, answers, answer, written, room}
 use Rattle.rules.proofs.walk.Outcome.{bind-got, bind-refused}
 use Rattle.rules.proofs.answer.Length.{Sized, sized-length, sized-part, refusal-length, judged-length}

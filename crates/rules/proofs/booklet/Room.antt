@@ -9,10 +9,10 @@ use lib.Dec.{ltb, eqb}
 use lib.ListN.{length, drop}
 use borrow.Author.Tests.{ltb-true, ltb-false}
 use Rattle.rules.specs.Blocks.{Ship, Row}
-use Rattle.rules.specs.Layout.{mostConditions}
+use Rattle.rules.specs.Layout.{mostConditions, conditionLines, Booklet}
 use Rattle.rules.specs.Outcome.{Ans, refused, got, _>>=_}
 use Rattle.rules.specs.Report.{Judgement, concat, reportLength}
-use Rattle.rules.specs.Booklet.{conditionLines, countedLines, Booklet, bookFrames, readWhole}
+use Rattle.rules.specs.Booklet.{countedLines, bookFrames, readWhole}
 use Rattle.rules.specs.Answer.{reportOf, answerAt, answersFrom, answers, taken, firstNumber, number, room, roomFor}
 use Rattle.rules.proofs.walk.Outcome.{bind-inv, bind-got, bind-refused}
 use Rattle.rules.proofs.booklet.Counted.{lines-lead}

@@ -9,7 +9,8 @@ use borrow.Author.Tests.{le-leb, lt-leb, ne-eqb}
 use Rattle.rules.specs.Blocks.{Ship, Row}
 use Rattle.rules.specs.Outcome.{refused, got, test, _>>=_, _>>_}
 use Rattle.rules.specs.Report.{concat, reportLength}
-use Rattle.rules.specs.Booklet.{conditionLines, countedLines, Booklet, bookFrames}
+use Rattle.rules.specs.Layout.{conditionLines, Booklet}
+use Rattle.rules.specs.Booklet.{countedLines, bookFrames}
 use Rattle.rules.specs.Answer.{reportOf, answersFrom, answers, taken, firstNumber, numberFor, sent, over, number, bytesSent, written}
 use Rattle.rules.proofs.walk.Outcome.{bind-got, bind-refused, test-got, test-refused}
 use Rattle.rules.proofs.booklet.Refusals.{countedLines-refusal, bookFrames-refusal}

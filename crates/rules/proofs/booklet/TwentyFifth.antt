@@ -8,9 +8,9 @@ use lib.ListN.{length, getD}
 use borrow.Author.Tests.{lt-ltb, le-ltb}
 use Rattle.rules.specs.Text.{text, Lines}
 use Rattle.rules.specs.Blocks.{conditionTag}
-use Rattle.rules.specs.Layout.{mostConditions}
+use Rattle.rules.specs.Layout.{mostConditions, isCondition, conditionLines}
 use Rattle.rules.specs.Outcome.{refused}
-use Rattle.rules.specs.Booklet.{isCondition, conditionLines, counted, readWhole}
+use Rattle.rules.specs.Booklet.{counted, readWhole}
 use Rattle.rules.proofs.walk.Outcome.{bind-refused, test-got, test-refused}
 use Rattle.rules.proofs.booklet.Counted.{lines-a3, lines-other, counted-a3, counted-other, lines-counted, begins}
 

@@ -7,9 +7,9 @@ use native.Mathlib.Omega.{arith}
 use lib.ListN.{length}
 use borrow.Author.Tests.{leb-true}
 use Rattle.rules.specs.Text.{text}
-use Rattle.rules.specs.Layout.{mostConditions}
+use Rattle.rules.specs.Layout.{mostConditions, conditionLines, Booklet}
 use Rattle.rules.specs.Outcome.{Ans, refused, got}
-use Rattle.rules.specs.Booklet.{conditionLines, countedLines, Booklet, bookFrames, readWhole}
+use Rattle.rules.specs.Booklet.{countedLines, bookFrames, readWhole}
 use Rattle.rules.specs.Apart.{linesOf, spellBooklet, WholeLimits, LinesWithin, AllowedWhole}
 use Rattle.rules.proofs.layout.Lines.{lines-sound}
 use Rattle.rules.proofs.walk.Outcome.{refused-got, bind-inv, bind-first, test-inv, bind-got}
