@@ -35,6 +35,7 @@ use Rattle.rules.proofs.walk.Retagged.{tanks-alike}
 use Rattle.rules.proofs.walk.Timber.{weathers-alike}
 use Rattle.rules.proofs.booklet.Sent.{under-one}
 use Rattle.rules.proofs.booklet.Room as rooms
+use Rattle.rules.proofs.booklet.Ends as ends
 use Rattle.rules.proofs.Booklets as booklets
 use Rattle.rules.proofs.bench.Cases.{refusal}
 use Rattle.rules.proofs.bench.Bench.{P1, P1-output, bench-holds}
@@ -92,6 +93,10 @@ module _ (text before : List ℕ) (n : ℕ) (after : List ℕ) (run : Judges tex
   pub nine-iff-no-room : (n ≡ 9) ↔ (length before < answers.room mostCharacters text)
   nine-iff-no-room = let x = rooms.nine-iff-no-room mostCharacters text before in (λ z. x .0 (sym (settled .0) ∙ z), λ short. no-room short .0)
 
+  -- A report has no byte 0: in a buffer that was lent full of zeros those bytes are 0 that no report was written to, and no others.
+  pub ends-at-zero : ((i : ℕ) → getD before i 0 ≡ 0) → (i : ℕ) → (getD after i 0 ≡ 0) ↔ (bytesSent mostCharacters text before ≤ i)
+  ends-at-zero zeros i = rw (settled .1) (ends.ends-at-zero mostCharacters text before zeros i)
+
   module _ (enough : answers.room mostCharacters text ≤ length before) where
     abbrev ran : replies.Run text before n after
     ran = record { numbered = settled .0; left = settled .1; enough = enough }
@@ -118,7 +123,7 @@ module _ (text before : List ℕ) (n : ℕ) (after : List ℕ) (run : Judges tex
     one-iff-no-line = faults.no-line-sent ran
 
     -- The text is refused with 2 for the whole, at a line, exactly when it is lines, within 180,000 characters and with at most 24 that begin with A3, in which the ship's frame, a row's or a misplaced one runs past that line; then its one report has the line.
-    pub two-iff-overrun : (l : ℕ) → ((readWhole mostCharacters text ≡ refused 2 l 0) ↔ WholeOverrunAt text l) × (WholeOverrunAt text l → (n ≡ 2) × (reportIn 0 after ≡ report 2 l 0 noJudgement))
+    pub two-iff-overrun : (l : ℕ) → (((refusal : RefusedWhole text before n after) × (n ≡ 2) × (refusal .line ≡ l)) ↔ WholeOverrunAt text l) × (WholeOverrunAt text l → reportIn 0 after ≡ report 2 l 0 noJudgement)
     two-iff-overrun = faults.whole-overrun ran
 
     -- A text of lines within 180,000 characters, at most 24 of which begin with A3, in which a line is the first that begins with another tag than is due there, is refused there for the whole: with 2 where its frame runs past it or it has one or two bytes, else with 4.

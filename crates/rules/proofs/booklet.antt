@@ -8,6 +8,7 @@ pub mod Conditions
 pub mod Sent
 pub mod Room
 pub mod Reports
+pub mod Ends
 pub mod LineOnly
 pub mod Alone
 pub mod AsFrames

@@ -13,7 +13,7 @@ use Rattle.rules.specs.Layout.{conditionLines, Booklet}
 use Rattle.rules.specs.Booklet.{countedLines, bookFrames}
 use Rattle.rules.specs.Answer.{reportOf, answersFrom, answers, taken, firstNumber, numberFor, sent, over, number, bytesSent, written}
 use Rattle.rules.proofs.walk.Outcome.{bind-got, bind-refused, test-got, test-refused}
-use Rattle.rules.proofs.booklet.Refusals.{countedLines-refusal, bookFrames-refusal}
+use Rattle.rules.proofs.booklet.Refusals.{countedLines-refusal}
 
 -- The number, the bytes written, and the buffer at the end.
 pub record Gives (most : ℕ) (t buffer : List ℕ) (n bytes : ℕ) (end : List ℕ) : Type 0 where
@@ -112,9 +112,6 @@ module _ (most : ℕ) (t buffer : List ℕ) where
         past-all = past-one ∙ bind-got _ e ∙ test-got _ _ _ _ (le-leb (reportLength * conditionLines ls) (length buffer) g)
 
         -- 'Then the blocks.'
-        pub unframed : {n l o : ℕ} → bookFrames ls ≡ refused n l o → Gives most t buffer n reportLength (reportOf (refused n l o) ++ drop reportLength buffer)
-        unframed r = gives-refusal (bookFrames-refusal ls .holds _ _ _ r .0 .1) (past-all ∙ r)
-
         pub framed : (b : Booklet) → bookFrames ls ≡ got b
             → Gives most t buffer (firstNumber (answers b)) (reportLength * length (b .conditions)) (concat (map reportOf (answers b)) ++ drop (reportLength * length (b .conditions)) buffer)
         framed b r = gives-reports b (past-all ∙ r)
