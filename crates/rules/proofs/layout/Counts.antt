@@ -1,7 +1,7 @@
 -- How many there may be, restated from 01 and request 3 and tried at each edge: rows, depths, entries, bytes, characters, condition lines; and the greatest KG.
 use mathlib.Core.Path.{_≡_, refl}
 use mathlib.Core.Bool.{true}
-use mathlib.Core.List.{List, _∷_}
+use mathlib.Core.List.{List, [], _∷_}
 use Prim.Native.Nat.{ℕ, _+_, min, _≤_, _<_}
 use native.Mathlib.Omega.{arith}
 use lib.Dec.{eqb}
@@ -11,8 +11,8 @@ use Rattle.rules.specs.Numbers.{full}
 use Rattle.rules.specs.Blocks.{Load, size, entry}
 use Rattle.rules.specs.Layout.{Reading}
 use Rattle.rules.specs.Outcome.{refused, got, test, _>>=_, _>>_}
-use Rattle.rules.specs.Walk.{Head, load, nested, fixed, begun, loadAt, entries, inside, conditionIn, rowIn, aRow, aCondition, tableRow, theCondition, found, linesFrom, readFrames, read}
-use Rattle.rules.specs.Booklet.{counted, countedLines}
+use Rattle.rules.specs.Walk.{Head, header, load, nested, fixed, begun, loadAt, entries, inside, conditionIn, rowIn, aRow, aCondition, tableRow, theCondition, found, linesFrom, readFrames, read}
+use Rattle.rules.specs.Booklet.{counted, countedLines, rowAt, onlyConditions, behindShip}
 use Rattle.rules.specs.Loading.{inTable, displacement, entriesOf, correctedKG, weighed}
 use Rattle.rules.specs.Answer.{limited}
 
@@ -33,6 +33,29 @@ module _ (ln p : ℕ) (h : Head) where
   pub row-41 : found ln 40 p h aRow ≡ refused 4 ln 0
   unfolding found test _>>=_ _>>_
   row-41 = refl
+
+-- So of a booklet.
+module _ (ln p : ℕ) (left : List ℕ) (ls : List (List ℕ)) where
+  pub booklet-one-row : behindShip ((0xA3 ∷ left) ∷ ls) ln 1 p ≡ (rowAt ln 1 p (0xA3 ∷ left) >>= λ v. behindShip ls (ln + 1) 2 (v .mass) >>= λ x. got (record { rows = v ∷ x .rows; conditions = x .conditions }))
+  unfolding behindShip
+  booklet-one-row = refl
+
+  pub booklet-two-rows : behindShip ((0xA3 ∷ left) ∷ ls) ln 2 p ≡ (onlyConditions (ln + 1) ls >>= λ u. got (record { rows = []; conditions = (0xA3 ∷ left) ∷ ls }))
+  unfolding behindShip
+  booklet-two-rows = refl
+
+module _ (ln p : ℕ) (l : List ℕ) (h : Head) (begins : header ln 0 l ≡ got h) where
+  pub booklet-no-row : h .tag ≡ 0xA3 → rowAt ln 1 p l ≡ refused 4 ln 0
+  unfolding rowAt test _>>=_ _>>_
+  booklet-no-row t = rw (begins, t)
+
+  pub booklet-row-40 : h .tag ≡ 0xA2 → rowAt ln 39 p l ≡ rowIn ln p h
+  unfolding rowAt test _>>=_ _>>_
+  booklet-row-40 t = rw (begins, t)
+
+  pub booklet-row-41 : h .tag ≡ 0xA2 → rowAt ln 40 p l ≡ refused 4 ln 0
+  unfolding rowAt test _>>=_ _>>_
+  booklet-row-41 t = rw (begins, t)
 
 -- 'At most 4 groups deep', 'at most 200 items and tanks': so many are left at first, and with none left 5 is sent back.
 pub four-and-200 : (ln at : ℕ) (s : List ℕ) → full s ≡ true → loadAt ln at s ≡ entries ln 4 200 at s
