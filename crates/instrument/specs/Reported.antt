@@ -1,7 +1,7 @@
 -- Where the reports of a booklet stand in the buffer, and what `judge` leaves for a text: one report for the whole, or one for each condition.
 use mathlib.Core.Path.{_≡_}
 use mathlib.Core.List.{List}
-use Prim.Native.Nat.{ℕ, _+_, _*_, _≤_, _<_}
+use Prim.Native.Nat.{ℕ, _*_, _≤_, _<_}
 use lib.ListN.{length, take, drop}
 use Rattle.rules.specs.Numbers.{digits}
 use Rattle.rules.specs.Text.{hex}

@@ -30,9 +30,9 @@ const FEWEST_ROWS: usize = 2;
 const MOST_ROWS: usize = 40;
 
 // The bytes of a row, of which no ship and no row has more; those of the longest condition that is not refused for its length.
-pub const ROW_BYTES: usize = 37;
+const ROW_BYTES: usize = 37;
 
-pub const CONDITION_BYTES: usize = 4_099;
+const CONDITION_BYTES: usize = 4_099;
 
 // The characters of the ship's line and of a row's, the LF among them.
 const SHIP_LINE: usize = 33;

@@ -1,4 +1,4 @@
--- What is promised of the reading of a text, to be read without the proofs: each promise is one theorem with a sentence above it, and its proof stands elsewhere.
+-- What is promised of the reading of a text of one condition (`judge` rests on that of a booklet: Booklets), to be read without the proofs: each promise is one theorem with a sentence above it, and its proof stands elsewhere.
 -- Its words are defined in specs/: Layout says which texts are allowed, Walk in which order they are checked, Places where blocks and refusals stand, Loading and Leaves what is summed, Tags, Cargo and Timber what it is for a C3 to be made a C5 and a C1 a C6, Met what a reading comes to.
 use mathlib.Core.Path.{_≡_, sym}
 use mathlib.Core.Logic.{_↔_, _≢_}

@@ -1,9 +1,9 @@
 -- Where the reports end: none has a character 0, so that in a buffer lent full of zeros the first 0 stands behind the last report.
-use mathlib.Core.Path.{_≡_, refl, ap, sym, _∙_}
+use mathlib.Core.Path.{_≡_, ap, sym, _∙_}
 use mathlib.Core.Bool.{Bool, true, false, cond}
 use mathlib.Core.Logic.{_↔_}
 use mathlib.Core.List.{List, [], _∷_, _++_, map}
-use Prim.Native.Nat.{ℕ, zero, suc, _+_, _-_, _*_, _/_, _%_, _≤_, _<_}
+use Prim.Native.Nat.{ℕ, zero, suc, _+_, _-_, _/_, _%_, _≤_, _<_}
 use native.Mathlib.Omega.{arith}
 use native.Mathlib.Decide.{decLe}
 use lib.Dec.{ltb, eqb}
@@ -15,7 +15,7 @@ use Rattle.rules.specs.Blocks.{block}
 use Rattle.rules.specs.Layout.{Booklet}
 use Rattle.rules.specs.Outcome.{Ans, refused, got}
 use Rattle.rules.specs.Report.{Judgement, concat, reportTag, reportBody, reportLine, reportLength}
-use Rattle.rules.specs.Answer.{reportOf, answers, taken, sent, over, bytesSent, written}
+use Rattle.rules.specs.Answer.{reportOf, answers, taken, sent, bytesSent, written}
 use Rattle.rules.proofs.answer.Steps.{report-refused, report-judged}
 use Rattle.rules.proofs.answer.Length.{Sized, sized-length, refusal-length}
 use Rattle.rules.proofs.booklet.Reports.{reports-sized}
