@@ -1,4 +1,4 @@
--- A text of one condition, as a booklet of one: it is answered as `answered` says.
+-- A text of one condition, as a booklet of one: it is answered as `answered` says; and so is every text of which no line but the last begins with A3.
 use mathlib.Core.Path.{_≡_, refl, ap, sym, _∙_}
 use mathlib.Core.Bool.{Bool, true, false}
 use mathlib.Core.List.{List, [], _∷_}
@@ -14,16 +14,17 @@ use Rattle.rules.specs.Layout.{Condition, Reading, spellCondition, rowFrames, f
 use Rattle.rules.specs.Met.{behindRows}
 use Rattle.rules.specs.Outcome.{Ans, refused, got}
 use Rattle.rules.specs.Walk.{read}
-use Rattle.rules.specs.Report.{Judgement, reportLength}
+use Rattle.rules.specs.Report.{Judgement, report, reportLength}
 use Rattle.rules.specs.Booklet.{readWhole}
-use Rattle.rules.specs.Apart.{BeginA3, spellBooklet, AllowedWhole, AllowedLine, lineAt, readingAt}
+use Rattle.rules.specs.Apart.{BeginA3, spellBooklet, AllowedWhole, AllowedLine, lineAt, readingAt, LastAlone}
 use Rattle.rules.specs.Answer.{answered, numberOf, reportOf, answers, answer, firstNumber, room}
 use Rattle.rules.proofs.layout.Lines.{lines-sound}
 use Rattle.rules.proofs.walk.WholeText as texts
 use Rattle.rules.proofs.booklet.Room.{room-read}
-use Rattle.rules.proofs.booklet.OfOne.{of-one}
+use Rattle.rules.proofs.answer.Steps.{report-refused}
+use Rattle.rules.proofs.booklet.OfOne.{of-one, refused-last, one-of-last}
 use Rattle.instrument.specs.Reported.{reportIn}
-use Rattle.instrument.proofs.Replies.{read-back, allowed, Run, numbered-first, report-at, beyond-at}
+use Rattle.instrument.proofs.Replies.{read-back, allowed, by-whole, Run, whole-sent, numbered-first, report-at, beyond-at}
 
 -- ---- its answer
 first-alone : (a : Ans Judgement) → firstNumber (a ∷ []) ≡ numberOf a
@@ -52,6 +53,13 @@ module _ {t : List ℕ} (a : AllowedWhole mostCharacters t) (one : length (a .0 
 
   pub beyond-one : {before : List ℕ} {n : ℕ} {after : List ℕ} → Run t before n after → drop reportLength after ≡ drop reportLength before
   beyond-one run = rw one at (beyond-at run a)
+
+-- Refused or read, a text of which no line but the last begins with A3.
+pub sent-last : {t before : List ℕ} {n : ℕ} {after : List ℕ} → LastAlone t → Run t before n after → (n ≡ numberOf (answered t)) × (reportIn 0 after ≡ reportOf (answered t)) × (drop reportLength after ≡ drop reportLength before)
+unfolding report
+sent-last {t} last run = by-whole
+    (λ m l h e. let s = whole-sent run m l 0 e in let a = refused-last t last e in (s .0 ∙ sym (ap numberOf a), s .1 ∙ sym (ap reportOf a ∙ report-refused m l 0), s .2))
+    (λ a. let one = one-of-last t last (a .0) (read-back a) in let s = sent-one a one run in (s .0, s .1, beyond-one a one run))
 
 -- Whether what is read is a booklet of one.
 abbrev pub isOne : Ans Booklet → Bool

@@ -28,13 +28,14 @@ use Rattle.rules.specs.Columns.{figureIn, verdictIn}
 use Rattle.rules.specs.Met.{Overruns}
 use Rattle.rules.specs.Places.{Placed}
 use Rattle.rules.specs.Booklet.{readWhole}
-use Rattle.rules.specs.Apart.{spellBooklet, AllowedWhole, AllowedLine, LinesWithin, lineAt, readingAt, alone, respelt, Misplaced, lineNumber}
+use Rattle.rules.specs.Apart.{spellBooklet, AllowedWhole, AllowedLine, LinesWithin, lineAt, readingAt, alone, respelt, LastAlone, Misplaced, lineNumber}
 use Rattle.rules.specs.Answer.{answered, numberOf, reportOf, inLine, number, bytesSent, written, limited}
 use Rattle.rules.specs.Answer as answers
 use Rattle.rules.proofs.walk.Retagged.{tanks-alike}
 use Rattle.rules.proofs.walk.Timber.{weathers-alike}
 use Rattle.rules.proofs.booklet.Sent.{under-one}
 use Rattle.rules.proofs.booklet.Room as rooms
+use Rattle.rules.proofs.booklet.OfOne.{room-last}
 use Rattle.rules.proofs.booklet.Ends as ends
 use Rattle.rules.proofs.Booklets as booklets
 use Rattle.rules.proofs.bench.Cases.{refusal}
@@ -326,14 +327,11 @@ module _ (text text′ before before′ : List ℕ) (n n′ : ℕ) (after after�
     pub code-passes-as-timber : HasNumber 0 (reportIn k after) → (i : ℕ) → EasedSlot i → verdictIn i (reportIn k after) ≡ hex (1 ∷ []) → verdictIn i (reportIn k′ after′) ≡ hex (1 ∷ [])
     code-passes-as-timber = tags.weather-eased here there a a′ k k′ differ
 
--- ---- texts of one condition
--- A text of one condition, with room for 209 bytes, is answered as document 01 answers it: the number and the one report are of that answer, and every byte beyond is as it was.
-pub of-one-condition : (text before : List ℕ) (n : ℕ) (after : List ℕ) → Judges text before n after → reportLength ≤ length before → (a : AllowedWhole mostCharacters text) → length (a .0 .conditions) ≡ 1
+-- ---- texts of one condition, or of none
+-- A text of which no line but the last begins with A3, as document 01 has every text that it reads, is answered as document 01 answers it, read or refused, and 209 bytes are room for it: the number and the one report are of that answer, and every byte beyond is as it was.
+pub of-one-condition : (text before : List ℕ) (n : ℕ) (after : List ℕ) → Judges text before n after → reportLength ≤ length before → LastAlone text
     → (n ≡ numberOf (answered text)) × (reportIn 0 after ≡ reportOf (answered text)) × (drop reportLength after ≡ drop reportLength before)
-of-one-condition text before n after run room a one =
-    let enough : answers.room mostCharacters text ≤ length before = omega (arith, ones.room-one a one) in
-    let s = ones.sent-one a one (ran text before n after run enough) in
-    (s .0, s .1, ones.beyond-one a one (ran text before n after run enough))
+of-one-condition text before n after run room last = let q = contract text before n after .0 run in ones.sent-last last (record { numbered = q .0; left = q .1; enough = omega (arith, room-last text last) })
 
 -- With room for 209 bytes a text gets this number, and this report at the front of the buffer.
 abbrev pub Sends : List ℕ → ℕ → List ℕ → Type 0

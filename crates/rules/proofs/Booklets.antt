@@ -18,7 +18,7 @@ use Rattle.rules.specs.Places.{FramesFill, ConditionFills, SameBefore, l
 use Rattle.rules.specs.Cargo.{MadeCargo, RetaggedLines, RetaggedLine}
 use Rattle.rules.specs.Timber.{TimberLines, TimberLine, conditionBy}
 use Rattle.rules.specs.Booklet.{readWhole, conditionAt}
-use Rattle.rules.specs.Apart.{linesOf, spellBooklet, AllowedWhole, AllowedLine, LinesWithin, lineAt, alone, respelt, MetWhole, Misplaced, lineNumber}
+use Rattle.rules.specs.Apart.{linesOf, spellBooklet, AllowedWhole, AllowedLine, LinesWithin, lineAt, alone, respelt, LastAlone, MetWhole, Misplaced, lineNumber}
 use Rattle.rules.specs.Answer.{reportOf, answered, answerAt, answers, answer, inLine, number, written, room}
 use Rattle.rules.proofs.walk.Retagged.{tanks-alike}
 use Rattle.rules.proofs.walk.Timber.{weathers-alike}
@@ -130,10 +130,10 @@ pub beyond-kept : (most : ℕ) (t buffer : List ℕ) (b : Booklet) → readWhole
     → drop (reportLength * length (b .conditions)) (written most t buffer) ≡ drop (reportLength * length (b .conditions)) buffer
 beyond-kept most t buffer b e r = reports.beyond-kept b most t buffer e r
 
--- ---- a text of one condition
--- It is answered as `answered` says, of which Reading promises more.
-pub of-one : (most : ℕ) (t : List ℕ) (b : Booklet) → most ≤ mostCharacters → readWhole most t ≡ got b → length (b .conditions) ≡ 1 → answers b ≡ answered t ∷ []
-of-one most t b m e one = ones.of-one most t b e m one
+-- ---- a text of one condition, or of none
+-- A text of which no line but the last begins with A3 is answered as `answered` says, of which Reading promises more: it is refused for the whole as there, or its one condition is answered so. 209 bytes are room for it.
+pub of-one : (t : List ℕ) → LastAlone t → ((n l o : ℕ) → readWhole mostCharacters t ≡ refused n l o → answered t ≡ refused n l o) × ((b : Booklet) → readWhole mostCharacters t ≡ got b → answers b ≡ answered t ∷ []) × (room mostCharacters t ≡ reportLength)
+of-one t last = (λ n l o e. ones.refused-last t last e, λ b e. ones.of-one mostCharacters t b e (omega arith) (ones.one-of-last t last b e), ones.room-last t last)
 
 -- ---- cargo tanks
 -- A C5 is tested as a C3. Take a text of lines within its limit and a block in it that begins with C3: a frame, the first block of a condition that fills its line, or one further on where blocks stand end to end, in groups or not. It may be well or ill, and so may what stands before it and behind it. Let it begin with C5:

@@ -67,6 +67,16 @@ alone b l = record { ship = b .ship; rows = b .rows; conditions = l ∷ [] }
 abbrev pub respelt : Booklet → ℕ → List ℕ → Booklet
 respelt b k l = record { ship = b .ship; rows = b .rows; conditions = set (b .conditions) k l }
 
+-- ---- texts of one condition, or of none
+-- No line but the last begins with A3.
+unfoldable pub OnlyLast : List (List ℕ) → Type 0
+OnlyLast [] = Unit {0}
+OnlyLast (l ∷ ls) = (getD l 0 0 ≡ conditionTag → ls ≡ []) × OnlyLast ls
+
+-- Of every text that is lines; one that is none begins nothing.
+abbrev pub LastAlone : List ℕ → Type 0
+LastAlone t = (ls : List (List ℕ)) → Lines ls → text ls ≡ t → OnlyLast ls
+
 -- ---- which lines the reading of a text as a whole comes to
 -- `MetWhole ls ln l`: in the lines ls, of which at most 24 begin with A3, line ln is looked at for its frame, and it has the bytes l. What stands behind it may be anything.
 pub data MetWhole : List (List ℕ) → ℕ → List ℕ → Type 0 where

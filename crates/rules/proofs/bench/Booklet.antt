@@ -36,6 +36,9 @@ decked = "A30018C6000C000001F40FA002BC012B0001C2000600155CC00F3C"
 abbrev booklet : List String → List ℕ
 booklet conditions = lines (ship ∷ row1 ∷ row2 ∷ conditions)
 
+abbrev P13 : List ℕ
+P13 = booklet (light ∷ [])
+
 -- ---- cases
 -- A text within a limit of characters, in a buffer of so many sevens, has a number and report lines, and the sevens beyond them stay; or it asks for so much room.
 pub data BookletCase : Type 0 where
@@ -58,7 +61,7 @@ sheet =
     ∷ sends mostCharacters (booklet (overrun ∷ [])) 209 2 (refusal "D100650200040012" ∷ [])
     ∷ sends mostCharacters (booklet (short ∷ [])) 209 3 (refusal "D100650300040012" ∷ [])
     ∷ sends mostCharacters [] 209 5 (refusal "D100650500000000" ∷ [])
-    ∷ sends mostCharacters (booklet (light ∷ [])) 209 7 (refusal "D100650700000000" ∷ [])
+    ∷ sends mostCharacters P13 209 7 (refusal "D100650700000000" ∷ [])
     ∷ []
 
 pub sheet-holds : All sheet
@@ -66,29 +69,25 @@ unfolding number bytesSent written
 sheet-holds = ((refl, refl, refl), ((refl, refl, refl), ((refl, refl, refl), ((refl, refl, refl), ((refl, refl, refl), tt)))))
 
 -- ---- two weathers
--- Each condition is judged with its own wind and by its own set, whichever stands first.
+-- Each condition is judged with its own wind and by its own set: the Code's, timber's, and the Code's again.
 abbrev pub weathers : List BookletCase
-weathers =
-    sends mostCharacters (booklet (fine ∷ plain ∷ decked ∷ [])) 627 0 (P1-output ∷ coaster-output ∷ coaster-timber-output ∷ [])
-    ∷ sends mostCharacters (booklet (decked ∷ plain ∷ fine ∷ [])) 627 0 (coaster-timber-output ∷ coaster-output ∷ P1-output ∷ [])
-    ∷ []
+weathers = sends mostCharacters (booklet (fine ∷ decked ∷ plain ∷ [])) 627 0 (P1-output ∷ coaster-timber-output ∷ coaster-output ∷ []) ∷ []
 
 pub weathers-hold : All weathers
 unfolding number bytesSent written
-weathers-hold = ((refl, refl, refl), ((refl, refl, refl), tt))
+weathers-hold = ((refl, refl, refl), tt)
 
 -- ---- each condition for itself
 abbrev pub apart : List BookletCase
 apart =
     sends mostCharacters (booklet (overrun ∷ fine ∷ [])) 420 2 (refusal "D100650200040012" ∷ P1-output ∷ [])
-    ∷ sends mostCharacters (booklet (fine ∷ overrun ∷ [])) 418 2 (P1-output ∷ refusal "D100650200050012" ∷ [])
     ∷ sends mostCharacters (booklet (fine ∷ light ∷ overrun ∷ [])) 627 7 (P1-output ∷ refusal "D100650700000000" ∷ refusal "D100650200060012" ∷ [])
-    ∷ sends mostCharacters (booklet ("A3" ∷ fine ∷ [])) 418 2 (refusal "D100650200040000" ∷ P1-output ∷ [])
+    ∷ sends mostCharacters (booklet ("A3" ∷ light ∷ [])) 418 2 (refusal "D100650200040000" ∷ refusal "D100650700000000" ∷ [])
     ∷ []
 
 pub apart-hold : All apart
 unfolding number bytesSent written
-apart-hold = ((refl, refl, refl), ((refl, refl, refl), ((refl, refl, refl), ((refl, refl, refl), tt))))
+apart-hold = ((refl, refl, refl), ((refl, refl, refl), ((refl, refl, refl), tt)))
 
 -- ---- for the whole text
 -- An A3 before the second row, a line behind an A3, each with 4 and with 2, and before a fault inside a condition; a 25th condition line, also behind a misplaced one; no A3; no line.
@@ -123,8 +122,8 @@ rooms =
     ∷ sends mostCharacters P1 208 9 []
     ∷ sends mostCharacters (lines ("A" ∷ [])) 208 9 []
     ∷ sends mostCharacters (lines (fine ∷ fine ∷ "A" ∷ [])) 209 1 (refusal "D100650100030000" ∷ [])
-    ∷ sends (length P1 - 1) P1 209 1 (refusal "D100650100000000" ∷ [])
-    ∷ sends (length P1) P1 209 0 (P1-output ∷ [])
+    ∷ sends (length P13 - 1) P13 209 1 (refusal "D100650100000000" ∷ [])
+    ∷ sends (length P13) P13 209 7 (refusal "D100650700000000" ∷ [])
     ∷ []
 
 pub rooms-hold : All rooms

@@ -7,8 +7,7 @@ use Prim.Native.Nat.{ℕ, _+_, _≤_}
 use native.Mathlib.Omega.{arith}
 use lib.Dec.{leb, eqb}
 use lib.ListN.{length, getD}
-use borrow.Author.Tests.{eqb-true}
-use Rattle.rules.specs.Blocks.{Ship, Row, row, conditionTag}
+use Rattle.rules.specs.Blocks.{Ship, Row, conditionTag}
 use Rattle.rules.specs.Layout.{fewestRows, isCondition}
 use Rattle.rules.specs.Outcome.{Ans, refused, got}
 use Rattle.rules.specs.Walk.{shipFrame}
@@ -16,15 +15,14 @@ use Rattle.rules.specs.Places.{SameBefore, lookedAt}
 use Rattle.rules.specs.Booklet.{rowAt, onlyConditions, behindShip, bookFrames, readWhole, conditionAt}
 use Rattle.rules.specs.Apart.{LinesWithin}
 use Rattle.rules.specs.Answer.{answerAt}
-use Rattle.rules.proofs.walk.Outcome.{bind-first, bind-last, bind-got, bind-refused, test-refused}
+use Rattle.rules.proofs.walk.Outcome.{bind-first, bind-last, bind-got, bind-refused}
 use Rattle.rules.proofs.walk.Refusals.{shipFrame-refusal, closed-refusal}
-use Rattle.rules.proofs.walk.SameBefore.{same-heads}
 use Rattle.rules.proofs.walk.FrameFault.{a-head, frame-fault, ship-fault, closed-fault}
 use Rattle.rules.proofs.booklet.Counted.{only-a3, only-other, behind-a3, behind-row}
 use Rattle.rules.proofs.booklet.Refusals.{rowAt-refusal, only-refusal, behind-refusal}
 use Rattle.rules.proofs.booklet.WholeText.{read-blocks}
 use Rattle.rules.proofs.booklet.Conditions.{answer-own, answer-refused}
-use Rattle.rules.proofs.booklet.AsFrames.{frame-row, frame-condition}
+use Rattle.rules.proofs.booklet.AsFrames.{frame-due, frame-condition}
 
 -- ---- one line
 -- The refusal names line b and offset o of the line l; l′ is the same as far as the refusal looks.
@@ -32,17 +30,8 @@ module _ (a b o : ℕ) (l l′ : List ℕ) (A : SameBefore (lookedAt l a o) l l�
   same-tag : getD l 0 0 ≡ getD l′ 0 0
   same-tag = A .bytes 0 (omega (arith, a-head 0 a b o l l′ A))
 
-  row-fault : (ln k p : ℕ) → rowAt ln k p l ≡ refused a b o → rowAt ln k p l′ ≡ refused a b o
-  unfolding rowAt
-  row-fault ln k p e = go (eqb (getD l 0 0) (row .tag)) refl
-    where
-      go : (c : Bool) → eqb (getD l 0 0) (row .tag) ≡ c → rowAt ln k p l′ ≡ refused a b o
-      go true q =
-          let t = eqb-true _ _ q in
-          bind-last _ _ (sym (frame-row ln k p l′ (sym same-tag ∙ t)) ∙ frame-fault ln a b o l l′ A k p (frame-row ln k p l t ∙ bind-refused _ e))
-      go false q =
-          same-heads A ln 0 (a-head ln a b o l l′ A) (λ x x′. bind-refused _ x′ ∙ (sym (bind-refused _ x) ∙ e))
-          (λ f H H′. bind-got _ H′ ∙ test-refused _ _ _ _ q ∙ (sym (bind-got _ H ∙ test-refused _ _ _ _ q) ∙ e))
+  row-fault : (ln k p : ℕ) → (isCondition l && leb fewestRows k) ≡ false → (isCondition l′ && leb fewestRows k) ≡ false → rowAt ln k p l ≡ refused a b o → rowAt ln k p l′ ≡ refused a b o
+  row-fault ln k p d d′ e = bind-last _ _ (sym (frame-due ln k p l′ d′) ∙ frame-fault ln a b o l l′ A k p (frame-due ln k p l d ∙ bind-refused _ e))
 
   condition-fault : (ln : ℕ) → getD l 0 0 ≡ conditionTag → conditionAt ln l ≡ refused a b o → conditionAt ln l′ ≡ refused a b o
   condition-fault ln t e =
@@ -79,8 +68,8 @@ module _ (l l′ : List ℕ) (later later′ : List (List ℕ)) (a b : ℕ) (A :
     where
       read-row : (isCondition l && leb fewestRows k) ≡ false → (r : Ans Row) → rowAt ln k p l ≡ r → behindShip (l′ ∷ later′) ln k p ≡ refused a b 0
       read-row c (refused x y z) h =
-          behind-row l′ later′ ln k p (ap (λ x. eqb x conditionTag && leb fewestRows k) (sym (same-tag a b 0 l l′ A)) ∙ c)
-          ∙ bind-refused _ (row-fault a b 0 l l′ A ln k p (bind-first _ _ h (sym (behind-row l later ln k p c) ∙ e)))
+          let d : (isCondition l′ && leb fewestRows k) ≡ false = ap (λ x. eqb x conditionTag && leb fewestRows k) (sym (same-tag a b 0 l l′ A)) ∙ c in
+          behind-row l′ later′ ln k p d ∙ bind-refused _ (row-fault a b 0 l l′ A ln k p c d (bind-first _ _ h (sym (behind-row l later ln k p c) ∙ e)))
       read-row c (got v) h = absurd (not-behind later ln (k + 1) (v .mass) q (bind-last _ _ (sym (behind-row l later ln k p c ∙ bind-got _ h) ∙ e)))
 
       go : (c : Bool) → (isCondition l && leb fewestRows k) ≡ c → behindShip (l′ ∷ later′) ln k p ≡ refused a b 0

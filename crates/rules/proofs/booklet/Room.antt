@@ -23,7 +23,7 @@ use Rattle.rules.proofs.booklet.Conditions.{answer-refusal}
 use Rattle.rules.proofs.booklet.Sent.{Gives, gives-refusal, gives-reports, past-one, past-all, under-one, under-all}
 
 -- ---- how much is asked for
-room-counted : (most : ℕ) (t : List ℕ) → room most t ≡ roomFor (countedLines most t)
+pub room-counted : (most : ℕ) (t : List ℕ) → room most t ≡ roomFor (countedLines most t)
 unfolding room
 room-counted most t = refl
 

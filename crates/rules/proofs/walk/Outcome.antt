@@ -71,3 +71,8 @@ pub bind-bind : {A B C : Type 0} (m : Ans A) (f : A → B) (k : B → Ans C) →
 unfolding _>>=_
 bind-bind (refused n l o) f k = refl
 bind-bind (got a) f k = refl
+
+pub bind-chain : {A B C : Type 0} (m : Ans A) (f : A → Ans B) (k : B → Ans C) → ((m >>= f) >>= k) ≡ (m >>= λ a. f a >>= k)
+unfolding _>>=_
+bind-chain (refused n l o) f k = refl
+bind-chain (got a) f k = refl
