@@ -21,14 +21,14 @@ use cursor::Head;
 use cursor::Part;
 use numbers::u16_at;
 
-// 'At most 200 items and tanks', 'at most 4 groups deep', 'at most 4,096 bytes', 'up to 40 A2'.
+// 'At most 200 items and tanks', 'at most 4 groups deep', 'at most 4,096 bytes', '2 to 40 A2'.
 const MOST_ENTRIES: u64 = 200;
 
 const MOST_DEPTH: u64 = 4;
 
 const MOST_BYTES: usize = 4_096;
 
-const MOST_ROWS: usize = 40;
+pub const MOST_ROWS: usize = 40;
 
 pub enum LoadRead {
     Sum(book::Sums),
@@ -119,7 +119,8 @@ fn entries(s: &[u8], line: usize, at: usize, depth: u64, t: book::Sums) -> LoadR
                 sums = u;
             }
         }
-        rest = &rest[3 + len..];
+        let left = cursor::bytes(rest, Part::Rest, len);
+        rest = left;
         rest_at = cursor::onward(rest_at, Part::Rest, len);
     }
     LoadRead::Sum(sums)

@@ -11,6 +11,7 @@ use Rattle.rules.specs.Report.{report, reportLength}
 use Rattle.rules.specs.Booklet.{readWhole}
 use Rattle.rules.specs.Answer.{answered, numberOf, reportOf, taken, firstNumber, numberFor, sent, over, number, written, room}
 use Rattle.rules.proofs.answer.Steps.{report-refused}
+use Rattle.rules.proofs.booklet.Sent.{number-taken, written-taken}
 use Rattle.rules.proofs.booklet.Room.{with-room}
 use Rattle.rules.proofs.bench.Cases.{lines, refusal}
 use Rattle.rules.proofs.bench.Bench.{ship, row1, row2, with, P1, P1-output}
@@ -18,7 +19,6 @@ use Rattle.rules.proofs.bench.CargoTank.{tanker}
 use Rattle.rules.proofs.bench.TimberDeck.{tender, coaster}
 use Rattle.instrument.specs.Reported.{reportIn}
 use Rattle.instrument.proofs.Replies.{whole-sent}
-use Rattle.instrument.proofs.Within.{number-taken, written-taken}
 use Rattle.instrument.proofs.OfOne.{isOne, one-read, room-one, sent-one}
 
 pub one-sent : (t : List ℕ) {m : ℕ} {r : List ℕ} → isOne (readWhole mostCharacters t) ≡ true → numberOf (answered t) ≡ m → reportOf (answered t) ≡ r
@@ -84,4 +84,4 @@ three-read = (refl, refl, refl)
 pub three-sent : (before : List ℕ) {n : ℕ} {after : List ℕ} → n ≡ number mostCharacters three before → after ≡ written mostCharacters three before → 3 * reportLength ≤ length before → (n ≡ 7) × (after ≡ over three-reports before)
 three-sent before N W h =
     let e = with-room mostCharacters three before (omega (arith, three-read .2)) in
-    (N ∙ number-taken three before mostCharacters ∙ ap numberFor e ∙ three-read .0, W ∙ written-taken three before mostCharacters ∙ ap (λ a. over (sent a) before) e ∙ ap (λ rs. over rs before) (three-read .1))
+    (N ∙ number-taken mostCharacters three before ∙ ap numberFor e ∙ three-read .0, W ∙ written-taken mostCharacters three before ∙ ap (λ a. over (sent a) before) e ∙ ap (λ rs. over rs before) (three-read .1))

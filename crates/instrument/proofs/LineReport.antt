@@ -18,7 +18,8 @@ use Rattle.rules.specs.Answer.{judged, numberOf, reportOf, answerAt}
 use Rattle.rules.proofs.walk.Outcome.{bind-got}
 use Rattle.rules.proofs.answer.Steps.{judged-refused, judged-weighed, report-refused, report-judged}
 use Rattle.rules.proofs.booklet.Refusals.{conditionAt-refusal}
-use Rattle.rules.proofs.booklet.Conditions.{condition-sound, condition-got, answer-steps, answer-refused}
+use Rattle.rules.proofs.booklet.Conditions.{condition-sound, answer-steps, answer-refused}
+use Rattle.rules.proofs.booklet.Conditions as conditions
 use Rattle.instrument.specs.Outside.{Outside, TooHigh, Neither}
 use Rattle.instrument.specs.Reported.{HasNumber, RefusedLine}
 use Rattle.instrument.proofs.Numbered.{number-reported, number-told}
@@ -32,7 +33,7 @@ pub record Reports (s : Ship) (vs : List Row) (ln : ℕ) (l r : List ℕ) : Type
 
 -- What an allowed line says is read from it, in every line.
 pub line-got : (ln : ℕ) {l : List ℕ} (c : AllowedLine l) → conditionAt ln l ≡ got (c .0)
-line-got ln c = rw (← (c .2)) (condition-got ln (c .0) (c .1))
+line-got ln {l} c = conditions.line-got ln l c
 
 module _ {s : Ship} {vs : List Row} {ln : ℕ} {l r : List ℕ} (q : Reports s vs ln l r) where
   abbrev reading : Condition → Reading

@@ -16,7 +16,8 @@ use Rattle.rules.proofs.walk.Outcome.{refused-got}
 use Rattle.rules.proofs.answer.Steps.{report-refused}
 use Rattle.rules.proofs.answer.Length.{refusal-length}
 use Rattle.rules.proofs.booklet.Refusals.{readWhole-refusal}
-use Rattle.rules.proofs.booklet.WholeText.{sound, complete}
+use Rattle.rules.proofs.booklet.WholeText.{sound}
+use Rattle.rules.proofs.booklet.WholeText as whole
 use Rattle.rules.proofs.booklet.Room.{whole-refused, whole-got, first-number}
 use Rattle.rules.proofs.booklet.Reports.{report-stands, beyond-kept}
 use Rattle.rules.proofs.booklet.PlaceFits.{whole-fits}
@@ -27,7 +28,7 @@ use Rattle.instrument.proofs.LineReport.{Reports}
 -- ---- what is read
 module _ {t : List ℕ} where
   pub read-back : (a : AllowedWhole mostCharacters t) → readWhole mostCharacters t ≡ got (a .0)
-  read-back a = rw (← (a .2)) (complete mostCharacters (a .0) (a .1))
+  read-back a = whole.read-back mostCharacters t a
 
   abbrev pub allowed : (b : Booklet) → readWhole mostCharacters t ≡ got b → AllowedWhole mostCharacters t
   allowed b e = let s = sound mostCharacters t b e in (b, s .0, s .1)

@@ -19,7 +19,7 @@ use Rattle.rules.proofs.booklet.Refusals.{readWhole-refusal}
 use Rattle.rules.proofs.booklet.Sent.{Gives}
 use Rattle.rules.proofs.booklet.Room.{room-bounds, room-read, whole-refused, whole-got, without-room, first-number}
 use Rattle.rules.proofs.booklet.WholeText.{countedLines-sound, sound, complete}
-use Rattle.book.specs.Book.{refusal, plainShip, Refuses}
+use Rattle.book.specs.Book.{refusal, plainShip, tableOf, Refuses}
 use Rattle.book.specs.declared.Refusal.{Refusal}
 use Rattle.reading.specs.TextAnswers.{frontCharacters, bookRead, told, answerFault}
 use Rattle.reading.specs.declared.Front.{Front}
@@ -106,6 +106,7 @@ module _ (most : ℕ) (t : List ℕ) (x : TextRead) (e : x ≡ told (countedLine
     pub counted : x .conditions ≡ length (booklet .conditions)
 
   pub opened : (front : Front) → x .answer ≡ answer.Whole front → most ≤ mostCharacters → Opened front
+  unfolding tableOf
   opened front p m = go (countedLines most t) refl
     where
       framed : (ls : List (List ℕ)) → countedLines most t ≡ got ls → (a : Ans Booklet) → bookFrames ls ≡ a → Opened front

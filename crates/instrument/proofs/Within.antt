@@ -18,31 +18,14 @@ use Rattle.rules.proofs.walk.Outcome.{test-got, test-refused}
 use Rattle.rules.proofs.answer.Steps.{report-refused}
 use Rattle.rules.proofs.answer.Length.{refusal-length}
 use Rattle.rules.proofs.booklet.Counted.{countedLines-steps}
-use Rattle.rules.proofs.booklet.Sent.{uncounted}
+use Rattle.rules.proofs.booklet.Sent.{number-taken, bytes-taken, written-taken, taken-steps, uncounted}
 use Rattle.rules.proofs.booklet.Room as rooms
 use Rattle.instrument.specs.Reported.{reportIn, RefusedWhole, EachAnswered}
 use Rattle.instrument.proofs.Replies.{read-back}
 
 -- ---- a text within the limit
 -- What is taken of a text depends on the limit by its lines alone.
-module _ (most n : ℕ) (t : List ℕ) where
-  taken-steps : taken most n t ≡ (test (leb reportLength n) 9 0 0 >> (countedLines most t >>= λ ls. test (leb (reportLength * conditionLines ls) n) 9 0 0 >> bookFrames ls))
-  unfolding taken
-  taken-steps = refl
-
 module _ (t buffer : List ℕ) where
-  pub number-taken : (most : ℕ) → number most t buffer ≡ numberFor (taken most (length buffer) t)
-  unfolding number
-  number-taken most = refl
-
-  bytes-taken : (most : ℕ) → bytesSent most t buffer ≡ reportLength * length (sent (taken most (length buffer) t))
-  unfolding bytesSent
-  bytes-taken most = refl
-
-  pub written-taken : (most : ℕ) → written most t buffer ≡ over (sent (taken most (length buffer) t)) buffer
-  unfolding written
-  written-taken most = refl
-
   module _ (most : ℕ) (h : length t ≤ most) where
     same-lines : Dec (length t ≤ mostCharacters) → countedLines (limited most) t ≡ countedLines mostCharacters t
     same-lines (yes g) = countedLines-steps (limited most) t ∙ test-got _ _ _ _ (le-leb (length t) (limited most) (omega arith)) ∙ sym (countedLines-steps mostCharacters t ∙ test-got _ _ _ _ (le-leb _ _ g))
@@ -51,15 +34,15 @@ module _ (t buffer : List ℕ) where
     same-taken : taken (limited most) (length buffer) t ≡ taken mostCharacters (length buffer) t
     same-taken =
         let n = length buffer in
-        taken-steps (limited most) n t
+        taken-steps (limited most) t buffer
         ∙ ap (λ a. test (leb reportLength n) 9 0 0 >> (a >>= λ ls. test (leb (reportLength * conditionLines ls) n) 9 0 0 >> bookFrames ls)) (same-lines (decLe (length t) mostCharacters))
-        ∙ sym (taken-steps mostCharacters n t)
+        ∙ sym (taken-steps mostCharacters t buffer)
 
     pub within-same : (number (limited most) t buffer ≡ number mostCharacters t buffer) × (bytesSent (limited most) t buffer ≡ bytesSent mostCharacters t buffer) × (written (limited most) t buffer ≡ written mostCharacters t buffer)
     within-same = (
-      number-taken (limited most) ∙ ap numberFor same-taken ∙ sym (number-taken mostCharacters),
-      bytes-taken (limited most) ∙ ap (λ a. reportLength * length (sent a)) same-taken ∙ sym (bytes-taken mostCharacters),
-      written-taken (limited most) ∙ ap (λ a. over (sent a) buffer) same-taken ∙ sym (written-taken mostCharacters),
+      number-taken (limited most) t buffer ∙ ap numberFor same-taken ∙ sym (number-taken mostCharacters t buffer),
+      bytes-taken (limited most) t buffer ∙ ap (λ a. reportLength * length (sent a)) same-taken ∙ sym (bytes-taken mostCharacters t buffer),
+      written-taken (limited most) t buffer ∙ ap (λ a. over (sent a) buffer) same-taken ∙ sym (written-taken mostCharacters t buffer),
     )
 
   -- ---- a longer one

@@ -1,7 +1,7 @@
 -- What is sent back with room for it: of one answer, of a condition, of a condition line and of all conditions of a booklet; and when plain data is that of a reading.
 use mathlib.Core.Path.{_≡_}
 use mathlib.Core.List.{List, _++_, map}
-use Prim.Native.Nat.{ℕ, _+_, _*_, _≤_, _<_}
+use Prim.Native.Nat.{ℕ, _*_, _≤_, _<_}
 use lib.ListN.{length, drop}
 use Rattle.rules.specs.Blocks.{Row}
 use Rattle.rules.specs.Blocks as rules

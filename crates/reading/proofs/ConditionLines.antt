@@ -36,11 +36,11 @@ head-alike (x ∷ y ∷ z ∷ b) (o ∷ p ∷ []) h k = absurd (omega arith)
 
 module _ (ln : ℕ) (t : List ℕ) (r : LineRead) (e : r ≡ lineOf t) where
   -- No line.
-  pub line-none : ((n : ℕ) → r ≡ line.Line n → ⊥) → noLine ≡ conditionLine ln t
+  pub line-none : ((n : ℕ) → r ≡ line.Line n → ⊥) → noLine ln ≡ conditionLine ln t
   unfolding conditionLine
   line-none h = rw (← e) (go r h)
     where
-      go : (r : LineRead) → ((n : ℕ) → r ≡ line.Line n → ⊥) → noLine ≡ lineRead ln (decoded t) r
+      go : (r : LineRead) → ((n : ℕ) → r ≡ line.Line n → ⊥) → noLine ln ≡ lineRead ln (decoded t) r
       go (line.Line n) h = absurd (h n refl)
       go line.Not h = refl
       go line.End h = refl

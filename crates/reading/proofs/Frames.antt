@@ -23,12 +23,11 @@ use Rattle.book.specs.declared.Table.{Table}
 use Rattle.book.specs.declared.Refusal.{Refusal}
 use Rattle.blocks.specs.BlockAnswers.{shipRead, rowRead}
 use Rattle.cursor.specs.BlockParts.{headOf}
-use Rattle.reading.specs.TextAnswers.{frontCharacters, refusedRead, bookRead}
+use Rattle.reading.specs.TextAnswers.{refusedRead, wholeRead, bookRead}
 use Rattle.reading.specs.Moved.{rowless, afterShip, afterRow, misplaced, movedRows, movedConditions, moved, withRow, ended}
 use Rattle.reading.specs.declared.State.{State}
 use Rattle.reading.specs.declared.State.the-variants.{Awaited, Rows, Conditions, Refused}
 use Rattle.reading.specs.declared.Moved.{Moved}
-use Rattle.reading.specs.declared.Answer.the-variants as answer
 use Rattle.reading.specs.declared.TextRead.{TextRead}
 
 -- The table after a line.
@@ -50,7 +49,7 @@ module _ (n : ℕ) where
   -- ---- behind a condition line
   abbrev ending : Ship → Table → Ans (Unit {0}) → TextRead
   ending s t (refused a b c) = refusedRead (refusal a b c) n
-  ending s t (got u) = record { answer = answer.Whole (record { ship = s; at = frontCharacters (t .count) }); table = t; conditions = n }
+  ending s t (got u) = wholeRead s t n
 
   run-misplaced : (s : Ship) (t : Table) (l : List ℕ) (ls : List (List ℕ)) (ln : ℕ) → run (misplaced ln (headOf (header ln 0 l))) t (ln + 1) n ls ≡ ending s t (closed ln (l ∷ ls))
   unfolding closed

@@ -7,7 +7,7 @@ use native.Mathlib.Omega.{arith}
 use lib.Dec.{eqb}
 use borrow.Author.Tests.{eqb-true, eqb-false, ne-eqb, lt-ltb, le-ltb}
 use Rattle.rules.specs.Layout.{mostRows, mostConditions, isCondition, conditionLines}
-use Rattle.rules.specs.Outcome.{Ans, refused, got, _>>=_, _>>_}
+use Rattle.rules.specs.Outcome.{Ans, refused, got, _>>=_}
 use Rattle.rules.specs.Booklet.{counted}
 use Rattle.rules.proofs.walk.Outcome.{bind-got, bind-refused, test-got, test-refused}
 use Rattle.rules.proofs.booklet.Counted.{lines-a3, lines-other, counted-a3, counted-other}

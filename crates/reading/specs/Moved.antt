@@ -21,12 +21,11 @@ use Rattle.blocks.specs.declared.row.RowAnswer.the-variants as row
 use Rattle.cursor.specs.BlockParts.{headOf}
 use Rattle.cursor.specs.declared.Head.{Head}
 use Rattle.cursor.specs.declared.Head.the-variants as head
-use Rattle.reading.specs.TextAnswers.{frontCharacters, refusedRead}
+use Rattle.reading.specs.TextAnswers.{refusedRead, wholeRead}
 use Rattle.reading.specs.declared.State.{State}
 use Rattle.reading.specs.declared.State.the-variants.{Awaited, Rows, Conditions, Refused}
 use Rattle.reading.specs.declared.Moved.{Moved}
 use Rattle.reading.specs.declared.Tally.{Tally}
-use Rattle.reading.specs.declared.Answer.the-variants as answer
 use Rattle.reading.specs.declared.TextRead.{TextRead}
 
 -- ---- a line of which the front is held
@@ -96,7 +95,7 @@ tallied t ln l = cond (isCondition l) (oneMore t ln) t
 abbrev pub ended : State → Table → ℕ → ℕ → TextRead
 ended Awaited t ln k = refusedRead (refusal 5 (ln - 1) 0) k
 ended (Rows s p) t ln k = refusedRead (refusal 5 (ln - 1) 0) k
-ended (Conditions s) t ln k = record { answer = answer.Whole (record { ship = s; at = frontCharacters (t .count) }); table = t; conditions = k }
+ended (Conditions s) t ln k = wholeRead s t k
 ended (Refused r) t ln k = refusedRead r k
 
 -- 5: 'a 25th condition line' goes before.

@@ -1,12 +1,13 @@
 -- What the code answers to a text, from what the rules answer: the ship and where the conditions begin, with the table beside it, or the refusal and a blank table; and what it answers to a condition line.
 use mathlib.Core.List.{List, []}
 use Prim.Native.Nat.{ℕ, _+_, _*_}
-use lib.ListN.{length}
 use Rattle.rules.specs.Outcome.{Ans, refused, got}
 use Rattle.rules.specs.Layout.{conditionLines, Booklet}
 use Rattle.rules.specs.Booklet.{bookFrames, conditionAt}
 use Rattle.book.specs.Book.{refusal, noRefusal, plainShip, tableOf}
 use Rattle.book.specs.declared.Refusal.{Refusal}
+use Rattle.book.specs.declared.Ship.{Ship}
+use Rattle.book.specs.declared.Table.{Table}
 use Rattle.text.specs.Line.{decoded, lineOf}
 use Rattle.text.specs.declared.LineRead.{LineRead}
 use Rattle.text.specs.declared.LineRead.the-variants as line
@@ -24,10 +25,14 @@ frontCharacters rows = 33 + 75 * rows
 abbrev pub refusedRead : Refusal → ℕ → TextRead
 refusedRead r k = record { answer = answer.Refused r; table = tableOf []; conditions = k }
 
+-- A text that is read as a whole, with k condition lines.
+abbrev pub wholeRead : Ship → Table → ℕ → TextRead
+wholeRead s t k = record { answer = answer.Whole (record { ship = s; at = frontCharacters (t .count) }); table = t; conditions = k }
+
 -- The blocks of a text with k condition lines.
 abbrev pub bookRead : ℕ → Ans Booklet → TextRead
 bookRead k (refused n l o) = refusedRead (refusal n l o) k
-bookRead k (got b) = record { answer = answer.Whole (record { ship = plainShip (b .ship); at = frontCharacters (length (b .rows)) }); table = tableOf (b .rows); conditions = k }
+bookRead k (got b) = wholeRead (plainShip (b .ship)) (tableOf (b .rows)) k
 
 -- Where 1 or the 25th condition line refuses the text none is counted.
 abbrev pub told : Ans (List (List ℕ)) → TextRead
@@ -40,14 +45,15 @@ answerFault (answer.Whole f) = noRefusal
 answerFault (answer.Refused r) = r
 
 -- ---- a condition line
-abbrev pub noLine : ConditionLine
-noLine = record { read = condition.Refused noRefusal; taken = 0 }
+-- 1: what stands here is no line, and none of it is taken.
+abbrev pub noLine : ℕ → ConditionLine
+noLine ln = record { read = condition.Refused (refusal 1 ln 0); taken = 0 }
 
 -- A line of n bytes, which are these.
 abbrev pub lineRead : ℕ → List ℕ → LineRead → ConditionLine
 lineRead ln l (line.Line n) = record { read = conditionRead (conditionAt ln l); taken = 2 * n + 1 }
-lineRead ln l line.Not = noLine
-lineRead ln l line.End = noLine
+lineRead ln l line.Not = noLine ln
+lineRead ln l line.End = noLine ln
 
 -- The line at the front of a text.
 unfoldable pub conditionLine : ℕ → List ℕ → ConditionLine

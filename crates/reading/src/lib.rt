@@ -27,8 +27,6 @@ const MOST_CONDITIONS: usize = 24;
 
 const FEWEST_ROWS: usize = 2;
 
-const MOST_ROWS: usize = 40;
-
 // The bytes of a row, of which no ship and no row has more; those of the longest condition that is not refused for its length.
 const ROW_BYTES: usize = 37;
 
@@ -187,7 +185,7 @@ fn row_line(ship: book::Ship, last: u64, front: &[u8], n: usize, line: usize, ro
         return rowless(State::Conditions(ship));
     }
     if front.len() < n {
-        let due = both(front[0] == 0xA2, rows < MOST_ROWS);
+        let due = both(front[0] == 0xA2, rows < frames::MOST_ROWS);
         return rowless(State::Refused(frames::long_frame(front, n, line, due)));
     }
     after_row(ship, frames::row_frame(front, line, rows, last))
@@ -323,11 +321,12 @@ pub fn read_text(text: &[u8], most: usize) -> TextRead
 }
 
 // ---- a condition line
-fn no_line() -> ConditionLine
-    ensures { λ r. ⌜ r ≡ noLine ⌝ }
+// 1, where no line stands.
+fn no_line(line: usize) -> ConditionLine
+    ensures { λ r. ⌜ r ≡ noLine line ⌝ }
 {
     ConditionLine {
-        read: ConditionRead::Refused(book::NO_REFUSAL),
+        read: ConditionRead::Refused(refusal(1, line, 0)),
         taken: 0,
     }
 }
@@ -339,7 +338,7 @@ pub fn read_condition(text: &[u8], line: usize, bytes: &mut [u8]) -> ConditionLi
 {
     let l = text::line_at(text, bytes);
     let LineRead::Line(n) = l else {
-        return no_line();
+        return no_line(line);
     };
     let taken = 2 * n + 1;
     if CONDITION_BYTES < n {

@@ -237,17 +237,8 @@ module _ (m : ℕ) where
       ∙ sym (ap (loadRead _) (group-refused _ _ _ _ _ _ _ (h .1) (h .0) (told-group _ _ (block b) (i .before .before .enum-told2 .given .1)) (load-refused _ _ _ (inner i) _ (c .enum-told3 .given .1))))
       ∙ top (known b) .loop .inv .same
 
-  add-rest : lts.Need-add-rest calls Pre reads.Post Inv μ-loop
-  add-rest c = let k = known (c .before) in omega (arith, head k .0)
-
-  sub-rest : lts.Need-sub-rest calls Pre reads.Post Inv μ-loop
-  sub-rest c = head (known (c .before)) .0
-
-  part-rest-start : lts.Need-part-rest-start calls Pre reads.Post Inv μ-loop
-  part-rest-start c = head (known (c .before)) .0
-
-  part-rest-end : lts.Need-part-rest-end calls Pre reads.Post Inv μ-loop
-  part-rest-end c = search needs
+  bytes-requires-2 : lts.Need-bytes-requires-2 calls Pre reads.Post Inv μ-loop
+  bytes-requires-2 c κs = head (known (c .before)) .0
 
   onward-requires-2 : lts.Need-onward-requires-2 calls Pre reads.Post Inv μ-loop
   onward-requires-2 c κs = let k = known (c .before .before) in omega (arith, head k .0, top k .loop .inv .placed)
@@ -256,13 +247,13 @@ module _ (m : ℕ) where
   loop-less c =
       let k = known (c .before .before .before) in
       let h = head k .0 in
-      omega (arith, h, length-part (rest k) (3 + len k) (length (rest k)) (omega arith))
+      omega (arith, h, ap length (c .before .bytes2 .ensures .0), length-part (rest k) (3 + len k) (length (rest k)) (omega arith))
 
   loop-again : lts.Need-loop-again calls Pre reads.Post Inv μ-loop
   loop-again c =
       let m = c .before .before in
       let k = known (m .before) in
-      one-further _ _ _ _ _ _ _ _ _ _ _ (top k .loop .inv) (head k .0) (c .onward2 .ensures) (behind m .0) (behind m .1)
+      rw (c .before .bytes2 .ensures .0) (one-further _ _ _ _ _ _ _ _ _ _ _ (top k .loop .inv) (head k .0) (c .onward2 .ensures) (behind m .0) (behind m .1))
 
   returns-4 : lts.Need-returns-4 calls Pre reads.Post Inv μ-loop
   returns-4 c = let p = c .before .loop in ap Sum (sym (plus-end _)) ∙ sym (ap (loadRead _) (entries-empty _ _ _ _ _ (c .loop-test .left))) ∙ p .inv .same
@@ -293,10 +284,7 @@ pub +entries-spec : {M : Type 1} → statement M
     (enum-known-inner m)
     (enum-told-3 m)
     (returns-3 m)
-    (add-rest m)
-    (sub-rest m)
-    (part-rest-start m)
-    (part-rest-end m)
+    (bytes-requires-2 m)
     (onward-requires-2 m)
     (loop-less m)
     (loop-again m)

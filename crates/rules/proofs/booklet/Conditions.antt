@@ -41,7 +41,7 @@ condition-got ln c L =
     bind-got _ (frame-got ln conditionTag (spellCondition c) (omega (arith, L .long))) ∙ test-got _ _ _ _ refl ∙ test-got _ _ _ _ (le-leb _ _ (L .long)) ∙ inside-got ln c L
 
 -- An allowed line says one condition only.
-line-got : (ln : ℕ) (l : List ℕ) (a : AllowedLine l) → conditionAt ln l ≡ got (a .0)
+pub line-got : (ln : ℕ) (l : List ℕ) (a : AllowedLine l) → conditionAt ln l ≡ got (a .0)
 line-got ln l a = rw (← (a .2)) (condition-got ln (a .0) (a .1))
 
 pub condition-unique : (l : List ℕ) (a b : AllowedLine l) → a .0 ≡ b .0

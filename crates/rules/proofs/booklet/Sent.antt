@@ -42,15 +42,15 @@ alone r = append-nil r
 
 module _ (most : ℕ) (t buffer : List ℕ) where
   -- ---- by what is taken
-  number-taken : number most t buffer ≡ numberFor (taken most (length buffer) t)
+  pub number-taken : number most t buffer ≡ numberFor (taken most (length buffer) t)
   unfolding number
   number-taken = refl
 
-  bytes-taken : bytesSent most t buffer ≡ reportLength * length (sent (taken most (length buffer) t))
+  pub bytes-taken : bytesSent most t buffer ≡ reportLength * length (sent (taken most (length buffer) t))
   unfolding bytesSent
   bytes-taken = refl
 
-  written-taken : written most t buffer ≡ over (sent (taken most (length buffer) t)) buffer
+  pub written-taken : written most t buffer ≡ over (sent (taken most (length buffer) t)) buffer
   unfolding written
   written-taken = refl
 
@@ -86,7 +86,7 @@ module _ (most : ℕ) (t buffer : List ℕ) where
       count = length-map (answers b) reportOf ∙ answers-length (b .ship) (b .rows) (b .conditions) (2 + length (b .rows))
 
   -- ---- by the steps of the text's reading
-  taken-steps : taken most (length buffer) t ≡ (test (leb reportLength (length buffer)) 9 0 0 >> (countedLines most t >>= λ ls. test (leb (reportLength * conditionLines ls) (length buffer)) 9 0 0 >> bookFrames ls))
+  pub taken-steps : taken most (length buffer) t ≡ (test (leb reportLength (length buffer)) 9 0 0 >> (countedLines most t >>= λ ls. test (leb (reportLength * conditionLines ls) (length buffer)) 9 0 0 >> bookFrames ls))
   unfolding taken
   taken-steps = refl
 

@@ -63,7 +63,7 @@ complete most b w =
     read-blocks most (spellBooklet b) (linesOf b) (record { spells = refl; lines = Lines-booklet b F; long = w .long; atMost = n }) ∙ frames-got b F
 
 -- ---- read exactly when allowed, and in one way
-read-back : (most : ℕ) (t : List ℕ) (a : AllowedWhole most t) → readWhole most t ≡ got (a .0)
+pub read-back : (most : ℕ) (t : List ℕ) (a : AllowedWhole most t) → readWhole most t ≡ got (a .0)
 read-back most t a = rw (← (a .2)) (complete most (a .0) (a .1))
 
 pub whole-unique : (most : ℕ) (t : List ℕ) (a b : AllowedWhole most t) → a .0 ≡ b .0

@@ -8,7 +8,7 @@ use lib.ListN.{length}
 use borrow.Author.Tests.{lt-ltb, le-ltb, le-leb, lt-leb, eq-eqb, ne-eqb}
 use Rattle.rules.specs.Blocks.{Layout, size, ok, values, ship, Row, row, Set, code, timber, weather}
 use Rattle.rules.specs.Layout.{mostDepth, mostEntries, mostBytes}
-use Rattle.rules.specs.Outcome.{refused, got, _>>=_, _>>_}
+use Rattle.rules.specs.Outcome.{refused, got, _>>=_}
 use Rattle.rules.specs.Walk.{Head, header, fixed, entries, among, chosen, weatherAt, loadAt, inside, conditionIn, fixedIn, shipFrame, rowIn, frameAt}
 use Rattle.rules.specs.Parts.{part, headAt}
 use Rattle.rules.proofs.walk.Outcome.{bind-got, bind-refused, test-got, test-refused}
