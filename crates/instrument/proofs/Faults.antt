@@ -27,8 +27,10 @@ use Rattle.rules.proofs.booklet.Conditions.{answer-refused, answer-refusal}
 use Rattle.rules.proofs.booklet.Sent.{answers-length}
 use Rattle.rules.proofs.booklet.Alone.{answer-at}
 use Rattle.rules.proofs.booklet.OnlyOverrun.{two-whole}
+use Rattle.rules.proofs.booklet.OnlyMisplaced.{four-whole}
+use Rattle.rules.proofs.booklet.NoneComes.{five-whole}
 use Rattle.rules.proofs.booklet.LineOverrun.{two-line}
-use Rattle.instrument.specs.Faults.{NoLineAt, WholeOverrunAt, LineOverrunAt}
+use Rattle.instrument.specs.Faults.{NoLineAt, WholeOverrunAt, MisplacedAt, OwedAt, LineOverrunAt}
 use Rattle.instrument.specs.Reported.{reportIn, HasNumber, RefusedWhole}
 use Rattle.instrument.proofs.FirstNumber.{first-of}
 use Rattle.instrument.proofs.LineReport.{Reports, by-line, has-refused, read-by, one-number}
@@ -92,20 +94,34 @@ module _ {t before : List ℕ} {n : ℕ} {after : List ℕ} (run : Run t before 
       found l (yes short) e = inr (short, one-no-line t short l 0 .0 e .1)
       found l (no long) e = let q = one-too-long t .1 (let k : mostCharacters < length t = omega arith in k) in inl (omega arith, (let u : l ≡ 0 = cc in u))
 
-  -- ---- 2
-  pub whole-overrun : (l : ℕ) → (((refusal : RefusedWhole t before n after) × (n ≡ 2) × (refusal .line ≡ l)) ↔ WholeOverrunAt t l) × (WholeOverrunAt t l → reportIn 0 after ≡ report 2 l 0 noJudgement)
-  whole-overrun l = ((λ x. to (x .0 .refusal ∙ ap (λ m. refused m (x .0 .line) 0) (x .1) ∙ ap (λ m. refused 2 m 0) (x .2)), λ v. refused-2 (from v)), λ v. whole-sent run 2 l 0 (from v) .1)
+  -- ---- 2, 4 and 5 for the whole
+  -- A number that is met at the lines P, and at no others, is sent back and reported so.
+  whole-at : (m : ℕ) (P : ℕ → Type 0) → (1 ≤ m) × (m ≤ 6) → ((l : ℕ) → (readWhole mostCharacters t ≡ refused m l 0) ↔ P l)
+      → (l : ℕ) → (((refusal : RefusedWhole t before n after) × (n ≡ m) × (refusal .line ≡ l)) ↔ P l) × (P l → reportIn 0 after ≡ report m l 0 noJudgement)
+  whole-at m P h iff l = (
+    (λ x. iff l .0 (x .0 .refusal ∙ ap (λ m. refused m (x .0 .line) 0) (x .1) ∙ ap (λ l. refused m l 0) (x .2)), λ v. sent (iff l .1 v)),
+    λ v. whole-sent run m l 0 (iff l .1 v) .1,
+  )
     where
-      to : readWhole mostCharacters t ≡ refused 2 l 0 → WholeOverrunAt t l
-      to e = let f = lines-of-refused mostCharacters t 2 l 0 e (λ z. omega arith) (λ z. omega arith) in let m = two-whole mostCharacters t (f .0) (f .1) l 0 .0 e in (f .0, f .1, m .1, m .2, m .3)
-
-      from : WholeOverrunAt t l → readWhole mostCharacters t ≡ refused 2 l 0
-      from v = two-whole mostCharacters t (v .0) (v .1) l 0 .1 (refl, v .2, v .3, v .4)
-
-      refused-2 : readWhole mostCharacters t ≡ refused 2 l 0 → (refusal : RefusedWhole t before n after) × (n ≡ 2) × (refusal .line ≡ l)
-      refused-2 e =
-          let s = whole-sent run 2 l 0 e in
+      sent : readWhole mostCharacters t ≡ refused m l 0 → (refusal : RefusedWhole t before n after) × (n ≡ m) × (refusal .line ≡ l)
+      sent e =
+          let s = whole-sent run m l 0 e in
           (record { line = l; refusal = e ∙ ap (λ m. refused m l 0) (sym (s .0)); from1to6 = (omega (arith, s .0), omega (arith, s .0)); reported = s .1 ∙ ap (λ m. report m l 0 noJudgement) (sym (s .0)); beyond = s .2 }, s .0, refl)
+
+  pub whole-overrun : (l : ℕ) → (((refusal : RefusedWhole t before n after) × (n ≡ 2) × (refusal .line ≡ l)) ↔ WholeOverrunAt t l) × (WholeOverrunAt t l → reportIn 0 after ≡ report 2 l 0 noJudgement)
+  whole-overrun = whole-at 2 (WholeOverrunAt t) (omega arith) (λ l. (
+    λ e. let f = lines-of-refused mostCharacters t 2 l 0 e (λ z. omega arith) (λ z. omega arith) in let m = two-whole mostCharacters t (f .0) (f .1) l 0 .0 e in (f .0, f .1, m .1, m .2, m .3),
+    λ v. two-whole mostCharacters t (v .0) (v .1) l 0 .1 (refl, v .2, v .3, v .4),
+  ))
+
+  pub whole-misplaced : (l : ℕ) → (((refusal : RefusedWhole t before n after) × (n ≡ 4) × (refusal .line ≡ l)) ↔ MisplacedAt t l) × (MisplacedAt t l → reportIn 0 after ≡ report 4 l 0 noJudgement)
+  whole-misplaced = whole-at 4 (MisplacedAt t) (omega arith) (λ l. (
+    λ e. let f = lines-of-refused mostCharacters t 4 l 0 e (λ z. omega arith) (λ z. omega arith) in let m = four-whole mostCharacters t (f .0) (f .1) l 0 .0 e in (f .0, f .1, m .1, m .2, m .3),
+    λ v. four-whole mostCharacters t (v .0) (v .1) l 0 .1 (refl, v .2, v .3, v .4),
+  ))
+
+  pub whole-owed : (l : ℕ) → (((refusal : RefusedWhole t before n after) × (n ≡ 5) × (refusal .line ≡ l)) ↔ OwedAt t l) × (OwedAt t l → reportIn 0 after ≡ report 5 l 0 noJudgement)
+  whole-owed = whole-at 5 (OwedAt t) (omega arith) (λ l. (λ e. five-whole mostCharacters t l 0 .0 e .1, λ v. five-whole mostCharacters t l 0 .1 (refl, v)))
 
   module _ (a : AllowedWhole mostCharacters t) (k : ℕ) (h : k < length (a .0 .conditions)) where
     abbrev here : Reports (a .0 .ship) (a .0 .rows) (lineNumber (a .0) k) (lineAt (a .0) k) (reportIn k after)

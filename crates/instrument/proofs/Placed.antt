@@ -24,6 +24,7 @@ use Rattle.rules.proofs.booklet.Refusals.{counted-refusal, bookFrames-refusal}
 use Rattle.rules.proofs.booklet.WholeText.{countedLines-sound}
 use Rattle.rules.proofs.booklet.Frames.{framed, Lines-booklet}
 use Rattle.rules.proofs.booklet.Conditions.{answer-refused}
+use Rattle.rules.proofs.booklet.PlaceFits.{condition-fits}
 use Rattle.instrument.specs.Reported.{reportIn, HasNumber, RefusedAt}
 use Rattle.instrument.proofs.Weighings.{weighed-cases}
 use Rattle.instrument.proofs.LineReport.{by-line, has-refused, has-off, has-judged}
@@ -100,8 +101,8 @@ placed-report run a k h =
     let g = some-bytes (lineAt (a .0) k) (q .tag) in
     by-line q
     (λ m o b i e.
-    inr (record { number = m; line = lineNumber (a .0) k; offset = o; from2to8 = omega arith; reported = has-refused q (answer-refused _ _ _ _ e) .1; placed = line-placed a k h m o (b .0) (b .1) (omega arith); own = λ _. refl }))
+    inr (record { number = m; line = lineNumber (a .0) k; offset = o; from2to8 = omega arith; reported = has-refused q (answer-refused _ _ _ _ e) .1; placed = line-placed a k h m o (b .0) (b .1) (omega arith); own = λ _. refl; fits = omega (arith, condition-fits (lineNumber (a .0) k) (lineAt (a .0) k) e .1) }))
     (λ c. weighed-cases (readingAt (a .0) (c .0))
-    (λ _ w. inr (record { number = 7; line = 0; offset = 0; from2to8 = omega arith; reported = has-off q c w .1; placed = unweighed (omega arith) (omega arith); own = λ z. absurd (omega arith) }))
-    (λ _ w. inr (record { number = 8; line = 0; offset = 0; from2to8 = omega arith; reported = has-off q c w .1; placed = unweighed (omega arith) (omega arith); own = λ z. absurd (omega arith) }))
+    (λ _ w. inr (record { number = 7; line = 0; offset = 0; from2to8 = omega arith; reported = has-off q c w .1; placed = unweighed (omega arith) (omega arith); own = λ z. absurd (omega arith); fits = omega arith }))
+    (λ _ w. inr (record { number = 8; line = 0; offset = 0; from2to8 = omega arith; reported = has-off q c w .1; placed = unweighed (omega arith) (omega arith); own = λ z. absurd (omega arith); fits = omega arith }))
     (λ _ w. inl (has-judged q c w .0)))

@@ -1,11 +1,11 @@
 -- What is promised of the instrument, to be read without the proofs: each promise is one theorem with a sentence above it, and its proof stands elsewhere.
--- All are stated of `judge`, or of `room` or `judge_within`, through its contract, which it is proved to meet (proofs/judge, room, judge_within). Their words are defined in the rules' specs/: Apart (which texts are allowed as a whole, which condition lines are, and what each says), Booklet and Answer (the order of checks, and what is answered), Report and Columns (a report's 209 characters, and where each number stands among them), Places (where a refusal may stand), Leaves and Loading (sums, masses and KG), Cargo and Timber (a C3 made a C5, and the slots of the timber set); and in specs/: Reported (where report k stands, and what is left in the buffer), Faults (1 and 2), Outside (7 and 8) and OneTag (two condition lines that differ in one tag alone).
+-- All are stated of `judge`, or of `room` or `judge_within`, through its contract, which it is proved to meet (proofs/judge, room, judge_within). Their words are defined in the rules' specs/: Apart (which texts are allowed as a whole, which condition lines are, and what each says), Booklet and Answer (the order of checks, and what is answered), Report and Columns (a report's 209 characters, and where each number stands among them), Places (where a refusal may stand), Leaves and Loading (sums, masses and KG), Cargo and Timber (a C3 made a C5, and the slots of the timber set); and in specs/: Reported (where report k stands, and what is left in the buffer), Faults (1, 2, 4 and 5), Outside (7 and 8) and OneTag (two condition lines that differ in one tag alone).
 -- Reports, conditions and figures are counted from 0, verdicts from 1, lines of a text from 1.
 use mathlib.Core.Path.{_≡_, refl, ap, sym, _∙_}
 use mathlib.Core.Bool.{true}
 use mathlib.Core.Logic.{_↔_, _≢_, _⊎_}
 use mathlib.Core.List.{List, [], _∷_, _++_}
-use Prim.Native.Nat.{ℕ, _+_, _*_, _≤_, _<_}
+use Prim.Native.Nat.{ℕ, _+_, _*_, max, _≤_, _<_}
 use native.Mathlib.Omega.{arith}
 use lib.IntN.{pos}
 use lib.ListN.{length, drop, getD}
@@ -13,7 +13,6 @@ use denote.Ref.{RefT, now}
 use Rattle.rules.specs.Rounding.{ceil}
 use Rattle.rules.specs.Numbers.{Bytes, digits, twos}
 use Rattle.rules.specs.Text.{hex, text, Lines}
-use Rattle.rules.specs.Text as spelled
 use Rattle.rules.specs.Blocks.{conditionTag, code, timber, Tank}
 use Rattle.rules.specs.Layout.{mostCharacters, conditionLines}
 use Rattle.rules.specs.Outcome.{refused, got}
@@ -26,7 +25,7 @@ use Rattle.rules.specs.Criteria.{angleOfGreatest}
 use Rattle.rules.specs.Report.{judgement, noJudgement, concat, report, reportLength}
 use Rattle.rules.specs.Columns.{figureIn, verdictIn}
 use Rattle.rules.specs.Met.{Overruns}
-use Rattle.rules.specs.Places.{Placed}
+use Rattle.rules.specs.Places.{Placed, SameBefore, lookedAt}
 use Rattle.rules.specs.Booklet.{readWhole}
 use Rattle.rules.specs.Apart.{spellBooklet, AllowedWhole, AllowedLine, LinesWithin, lineAt, readingAt, alone, respelt, LastAlone, Misplaced, lineNumber}
 use Rattle.rules.specs.Answer.{answered, numberOf, reportOf, inLine, number, bytesSent, written, limited}
@@ -44,7 +43,7 @@ use Rattle.rules.proofs.bench.CargoTank.{tanker, cargo-output, planner-holds}
 use Rattle.rules.proofs.bench.TimberDeck.{tender, tender-output, tender-timber-output, coaster, coaster-output, coaster-timber-output, timbers-hold}
 use Rattle.rules.proofs.bench.Regrouped.{regrouped, asOne, asGroup, reads-as, same-sums, two-texts}
 use Rattle.instrument.specs.Reported.{reportIn, numberIn, HasNumber, RefusedLine, SameButLine, RefusedAt, RefusedWhole, EachAnswered}
-use Rattle.instrument.specs.Faults.{NoLineAt, WholeOverrunAt, LineOverrunAt}
+use Rattle.instrument.specs.Faults.{NoLineAt, WholeOverrunAt, MisplacedAt, OwedAt, LineOverrunAt}
 use Rattle.instrument.specs.Outside.{Outside, TooHigh, Neither}
 use Rattle.instrument.specs.OneTag.{OtherTagIn}
 use Rattle.instrument.proofs.judge.Reads as judge
@@ -98,6 +97,11 @@ module _ (text before : List ℕ) (n : ℕ) (after : List ℕ) (run : Judges tex
   pub ends-at-zero : ((i : ℕ) → getD before i 0 ≡ 0) → (i : ℕ) → (getD after i 0 ≡ 0) ↔ (bytesSent mostCharacters text before ≤ i)
   ends-at-zero zeros i = rw (settled .1) (ends.ends-at-zero mostCharacters text before zeros i)
 
+  -- That is: none with 9, 209 of a text that is refused for the whole, 209 for each condition of any other.
+  pub bytes-are : (n ≡ 9 → bytesSent mostCharacters text before ≡ 0) × (RefusedWhole text before n after → bytesSent mostCharacters text before ≡ reportLength)
+      × ((x : EachAnswered text before n after) → bytesSent mostCharacters text before ≡ reportLength * length (x .allowed .0 .conditions))
+  bytes-are = limits.bytes-told text before n after (settled .0) (settled .1)
+
   module _ (enough : answers.room mostCharacters text ≤ length before) where
     abbrev ran : replies.Run text before n after
     ran = record { numbered = settled .0; left = settled .1; enough = enough }
@@ -115,9 +119,9 @@ module _ (text before : List ℕ) (n : ℕ) (after : List ℕ) (run : Judges tex
     pub refusal-reported : (m l o : ℕ) → readWhole mostCharacters text ≡ refused m l o → (n ≡ m) × (reportIn 0 after ≡ report m l o noJudgement) × (drop reportLength after ≡ drop reportLength before)
     refusal-reported = replies.whole-sent ran
 
-    -- The place lies within the text as document 01 has it: for 1 and for 2 to 6 one of the text's own lines, or line 0 where it is over 180,000 characters (1) or empty (5). The offset is 0.
-    pub refusal-placed : (refusal : RefusedWhole text before n after) → Placed text n (refusal .line) 0
-    refusal-placed refusal = whole-placed text .holds n (refusal .line) 0 (refusal .refusal)
+    -- The place lies within the text as document 01 has it: for 1 and for 2 to 6 one of the text's own lines, or line 0 where it is over 180,000 characters (1) or empty (5). The offset is 0. No line above 60,000 is named, so that it fits its two bytes.
+    pub refusal-placed : (refusal : RefusedWhole text before n after) → Placed text n (refusal .line) 0 × (refusal .line ≤ 60_000)
+    refusal-placed refusal = (whole-placed text .holds n (refusal .line) 0 (refusal .refusal), booklets.whole-place mostCharacters text n (refusal .line) 0 (omega arith) (refusal .refusal) .0)
 
     -- The number is 1 exactly when the text is over 180,000 characters or has within them a line that is none; then its one report has line 0, or the first such line.
     pub one-iff-no-line : ((n ≡ 1) ↔ ((l : ℕ) × NoLineAt text l)) × ((l : ℕ) → NoLineAt text l → reportIn 0 after ≡ report 1 l 0 noJudgement)
@@ -136,12 +140,13 @@ module _ (text before : List ℕ) (n : ℕ) (after : List ℕ) (run : Judges tex
           λ v. let s = refusal-reported 4 l 0 (x .1 v) in (s .0, s .1),
         )
 
-    -- A text of lines within 180,000 characters with a 25th that begins with A3 is refused with 5 there for the whole, whatever else it holds.
-    pub five-at-25th : (front later : List (List ℕ)) (l : List ℕ) → spelled.text (front ++ (l ∷ later)) ≡ text → Lines (front ++ (l ∷ later)) → length text ≤ mostCharacters → conditionLines front ≡ 24 → getD l 0 0 ≡ conditionTag
-        → (n ≡ 5) × (reportIn 0 after ≡ report 5 (1 + length front) 0 noJudgement)
-    five-at-25th front later l e L short c tag =
-        let s = refusal-reported 5 (1 + length front) 0 (rw e at (booklets.five-at-25th mostCharacters front l later L (omega (arith, ap length e)) c tag)) in
-        (s .0, s .1)
+    -- Such a text is refused with 4 for the whole, at a line, exactly when that is such a line and does not run past its end; then its one report has the line.
+    pub four-iff-misplaced : (l : ℕ) → (((refusal : RefusedWhole text before n after) × (n ≡ 4) × (refusal .line ≡ l)) ↔ MisplacedAt text l) × (MisplacedAt text l → reportIn 0 after ≡ report 4 l 0 noJudgement)
+    four-iff-misplaced = faults.whole-misplaced ran
+
+    -- A text is refused with 5 for the whole, at a line, exactly when it is lines within 180,000 characters and that line is the 25th that begins with A3, whatever else the text holds; or when at most 24 do, and no A3 comes behind the ship and rows within their limits, or the text is empty: the line is then the number of lines. Its one report has the line.
+    pub five-iff-owed : (l : ℕ) → (((refusal : RefusedWhole text before n after) × (n ≡ 5) × (refusal .line ≡ l)) ↔ OwedAt text l) × (OwedAt text l → reportIn 0 after ≡ report 5 l 0 noJudgement)
+    five-iff-owed = faults.whole-owed ran
 
     -- ---- the conditions of a text that is allowed as a whole
     module _ (a : AllowedWhole mostCharacters text) where
@@ -327,6 +332,17 @@ module _ (text text′ before before′ : List ℕ) (n n′ : ℕ) (after after�
     pub code-passes-as-timber : HasNumber 0 (reportIn k after) → (i : ℕ) → EasedSlot i → verdictIn i (reportIn k after) ≡ hex (1 ∷ []) → verdictIn i (reportIn k′ after′) ≡ hex (1 ∷ [])
     code-passes-as-timber = tags.weather-eased here there a a′ k k′ differ
 
+-- ---- the first fault met ends the reading
+-- Two texts of lines within 180,000 characters, each with room and with at most 24 condition lines, that have the same lines before the one that the first one's refusal for the whole names, and that line of one length and the same as far as the refusal looks, get the same number and the same report. (Not 5: with no A3 it names the text's end.)
+pub first-fault : (text text′ before before′ : List ℕ) (n n′ : ℕ) (after after′ : List ℕ) → Judges text before n after → Judges text′ before′ n′ after′
+    → answers.room mostCharacters text ≤ length before → answers.room mostCharacters text′ ≤ length before′
+    → (front later later′ : List (List ℕ)) (l l′ : List ℕ) → LinesWithin mostCharacters text (front ++ (l ∷ later)) → LinesWithin mostCharacters text′ (front ++ (l′ ∷ later′))
+    → (x : RefusedWhole text before n after) → x .line ≡ 1 + length front → n ≢ 5 → SameBefore (lookedAt l n 0) l l′ → (n ≡ n′) × (reportIn 0 after ≡ reportIn 0 after′)
+first-fault text text′ before before′ n n′ after after′ run run′ enough enough′ front later later′ l l′ C C′ x e five A =
+    let q = booklets.first-fault mostCharacters text text′ front later later′ l l′ n C C′ A five (x .refusal ∙ ap (λ m. refused n m 0) e) in
+    let s = refusal-reported text′ before′ n′ after′ run′ enough′ n (1 + length front) 0 q in
+    (sym (s .0), x .reported ∙ ap (λ m. report n m 0 noJudgement) e ∙ sym (s .1))
+
 -- ---- texts of one condition, or of none
 -- A text of which no line but the last begins with A3, as document 01 has every text that it reads, is answered as document 01 answers it, read or refused, and 209 bytes are room for it: the number and the one report are of that answer, and every byte beyond is as it was.
 pub of-one-condition : (text before : List ℕ) (n : ℕ) (after : List ℕ) → Judges text before n after → reportLength ≤ length before → LastAlone text
@@ -382,12 +398,15 @@ told text r run = rw (← (run .4)) (run .3)
 pub room-tells : (text : List ℕ) (r : ℕ) → Asks text r → (before : List ℕ) (n : ℕ) (after : List ℕ) → Judges text before n after → (n ≡ 9) ↔ (length before < r)
 room-tells text r run before n after run′ = rw (told text r run) (nine-iff-no-room text before n after run′)
 
--- It is at least 209 and at most 24 times that; and 209 for each condition of a text that is allowed as a whole.
-pub room-is : (text : List ℕ) (r : ℕ) → Asks text r → (reportLength ≤ r) × (r ≤ 24 * reportLength) × ((a : AllowedWhole mostCharacters text) → r ≡ reportLength * length (a .0 .conditions))
+-- It is at least 209 and at most 24 times that. Of a text of lines within 180,000 characters, at most 24 of which begin with A3, it is 209 for each of these wherever they stand, and 209 where there is none; of every other text 209. So it is 209 for each condition of a text that is allowed as a whole.
+pub room-is : (text : List ℕ) (r : ℕ) → Asks text r → (reportLength ≤ r) × (r ≤ 24 * reportLength)
+    × ((ls : List (List ℕ)) → LinesWithin mostCharacters text ls → r ≡ max reportLength (reportLength * conditionLines ls)) × (((ls : List (List ℕ)) → ¬ LinesWithin mostCharacters text ls) → r ≡ reportLength)
+    × ((a : AllowedWhole mostCharacters text) → r ≡ reportLength * length (a .0 .conditions))
 room-is text r run =
     let b = rooms.room-bounds mostCharacters text in
     let e = told text r run in
-    (omega arith, omega arith, λ a. e ∙ rooms.room-read mostCharacters text (a .0) (replies.read-back a))
+    let x = rooms.room-lines mostCharacters text in
+    (omega arith, omega arith, λ ls C. e ∙ x .0 ls C, λ none. e ∙ x .1 none, λ a. e ∙ rooms.room-read mostCharacters text (a .0) (replies.read-back a))
 
 -- ---- a limit of one's own
 -- One run of `judge_within` as its contract admits it: lent `text` and the buffer `before`, with this limit, it sends back the number `n` and the length `bytes`, and leaves the buffer `after`.

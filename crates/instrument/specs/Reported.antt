@@ -43,6 +43,7 @@ pub record RefusedAt (text : List ℕ) (b : Booklet) (k : ℕ) (r : List ℕ) : 
   pub reported : r ≡ report number line offset noJudgement
   pub placed : Placed text number line offset
   pub own : number ≤ 6 → line ≡ lineNumber b k
+  pub fits : offset < 4_099
 
 -- ---- what is left in the buffer, with the number n
 -- The text is refused for the whole, with this number from 1 to 6 and at this line: that is in the one report, and every byte beyond it is as it was.

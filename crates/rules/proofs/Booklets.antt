@@ -1,15 +1,15 @@
 -- What is promised of a booklet, a text of up to 24 conditions, to be read without the proofs: each promise is one theorem with a sentence above it, and its proof stands elsewhere.
 -- Its words are defined in specs/: Apart says which texts are allowed as a whole and which condition lines are, Booklet in which order they are checked, Answer what is sent back; Tags, Cargo and Timber what it is for a C3 to be made a C5 and a C1 a C6.
 use mathlib.Core.Path.{_≡_, sym, ap, _∙_}
-use mathlib.Core.Logic.{_↔_, _≢_}
+use mathlib.Core.Logic.{_↔_, _≢_, _⊎_}
 use mathlib.Core.List.{List, [], _∷_, _++_}
 use Prim.Native.Nat.{ℕ, _+_, _*_, max, _≤_, _<_}
 use native.Mathlib.Omega.{arith}
 use lib.ListN.{length, take, drop, getD, length-set}
 use Rattle.rules.specs.Numbers.{Bytes}
 use Rattle.rules.specs.Text.{text, Lines}
-use Rattle.rules.specs.Blocks.{conditionTag, Ship, Row, code, timber, Tank}
-use Rattle.rules.specs.Layout.{Entries, Condition, mostCharacters, mostConditions, conditionLines, Booklet}
+use Rattle.rules.specs.Blocks.{block, conditionTag, Ship, Row, code, timber, Tank}
+use Rattle.rules.specs.Layout.{Entries, Condition, spellCondition, mostCharacters, mostConditions, ConditionLimits, conditionLines, Booklet}
 use Rattle.rules.specs.Outcome.{refused, got}
 use Rattle.rules.specs.Walk.{linesFrom}
 use Rattle.rules.specs.Report.{reportLength}
@@ -18,13 +18,17 @@ use Rattle.rules.specs.Places.{FramesFill, ConditionFills, SameBefore, l
 use Rattle.rules.specs.Cargo.{MadeCargo, RetaggedLines, RetaggedLine}
 use Rattle.rules.specs.Timber.{TimberLines, TimberLine, conditionBy}
 use Rattle.rules.specs.Booklet.{readWhole, conditionAt}
-use Rattle.rules.specs.Apart.{linesOf, spellBooklet, AllowedWhole, AllowedLine, LinesWithin, lineAt, alone, respelt, LastAlone, MetWhole, Misplaced, lineNumber}
+use Rattle.rules.specs.Apart.{linesOf, spellBooklet, WholeLimits, AllowedWhole, AllowedLine, LinesWithin, lineAt, alone, respelt, LastAlone, MetWhole, Misplaced, NoCondition, TwentyFifth, lineNumber}
 use Rattle.rules.specs.Answer.{reportOf, answered, answerAt, answers, answer, inLine, number, written, room}
 use Rattle.rules.proofs.walk.Retagged.{tanks-alike}
 use Rattle.rules.proofs.walk.Timber.{weathers-alike}
-use Rattle.rules.proofs.booklet.Refusals.{conditionAt-refusal}
+use Rattle.rules.proofs.booklet.Refusals.{readWhole-refusal, conditionAt-refusal}
 use Rattle.rules.proofs.booklet.WholeText.{lines-of-refused, whole-iff-allowed, whole-unique}
 use Rattle.rules.proofs.booklet.Conditions.{condition-iff-allowed, condition-unique}
+use Rattle.rules.proofs.booklet.WholeText as whole
+use Rattle.rules.proofs.booklet.Conditions as lines
+use Rattle.rules.proofs.booklet.OnlyMisplaced.{four-whole}
+use Rattle.rules.proofs.booklet.NoneComes.{five-whole}
 use Rattle.rules.proofs.booklet.Room as rooms
 use Rattle.rules.proofs.booklet.Reports as reports
 use Rattle.rules.proofs.booklet.LineOnly.{in-line-only}
@@ -36,7 +40,6 @@ use Rattle.rules.proofs.booklet.OnlyOverrun.{two-whole}
 use Rattle.rules.proofs.booklet.LineOverrun.{two-line}
 use Rattle.rules.proofs.booklet.Misplaced.{two-misplaced, four-misplaced}
 use Rattle.rules.proofs.booklet.FirstFault.{whole-fault, fault-in-line}
-use Rattle.rules.proofs.booklet.TwentyFifth.{twenty-fifth}
 use Rattle.rules.proofs.booklet.OtherTag.{answers-alike, refused-alike, read-other}
 use Rattle.rules.proofs.booklet.Retagged.{made-cargo, in-timber}
 
@@ -45,6 +48,14 @@ use Rattle.rules.proofs.booklet.Retagged.{made-cargo, in-timber}
 pub allowed-whole : (most : ℕ) (t : List ℕ) → ((n l o : ℕ) → (1 ≤ n) × (n ≤ 6) → readWhole most t ≢ refused n l o) ↔ AllowedWhole most t
 allowed-whole most t = whole-iff-allowed most t
 
+-- What is read from a text is the booklet that spells it, within the limits of the whole.
+pub booklet-spells : (most : ℕ) (t : List ℕ) (b : Booklet) → (readWhole most t ≡ got b) ↔ (WholeLimits most b × (spellBooklet b ≡ t))
+booklet-spells most t b = (λ e. whole.sound most t b e, λ x. rw (← (x .1)) (whole.complete most b (x .0)))
+
+-- The number of a refusal for the whole is one of 1 to 6.
+pub refusal-number : (most : ℕ) (t : List ℕ) (n l o : ℕ) → readWhole most t ≡ refused n l o → (1 ≤ n) × (n ≤ 6)
+refusal-number most t n l o e = readWhole-refusal most t .holds n l o e
+
 -- It says one booklet only.
 pub one-booklet : (most : ℕ) (t : List ℕ) (a b : AllowedWhole most t) → a .0 ≡ b .0
 one-booklet most t a b = whole-unique most t a b
@@ -52,6 +63,10 @@ one-booklet most t a b = whole-unique most t a b
 -- A line that begins with A3 gets none of 2 to 6 exactly when it is allowed, whatever the ship, the rows and its place.
 pub allowed-line : (s : Ship) (vs : List Row) (ln : ℕ) (l : List ℕ) → getD l 0 0 ≡ conditionTag → Bytes l → ((n m o : ℕ) → (2 ≤ n) × (n ≤ 6) → answerAt s vs ln l ≢ refused n m o) ↔ AllowedLine l
 allowed-line s vs ln l t B = condition-iff-allowed s vs ln l t B
+
+-- What is read from it is the condition that spells it, within its limits.
+pub condition-spells : (ln : ℕ) (l : List ℕ) (c : Condition) → getD l 0 0 ≡ conditionTag → Bytes l → (conditionAt ln l ≡ got c) ↔ (ConditionLimits c × (block conditionTag (spellCondition c) ≡ l))
+condition-spells ln l c t B = (λ e. lines.condition-sound ln l c t B e, λ x. rw (← (x .1)) (lines.condition-got ln c (x .0)))
 
 -- It says one condition only.
 pub one-condition : (l : List ℕ) (a b : AllowedLine l) → a .0 ≡ b .0
@@ -80,6 +95,10 @@ room-read most t b e = rooms.room-read most t b e
 
 pub room-bounds : (most : ℕ) (t : List ℕ) → (reportLength ≤ room most t) × (room most t ≤ reportLength * mostConditions)
 room-bounds most t = rooms.room-bounds most t
+
+-- A text of lines within its limit, of which at most 24 begin with A3, asks for 209 bytes for each of these wherever they stand, and for 209 where there is none; every other text for 209.
+pub room-lines : (most : ℕ) (t : List ℕ) → ((ls : List (List ℕ)) → LinesWithin most t ls → room most t ≡ max reportLength (reportLength * conditionLines ls)) × (((ls : List (List ℕ)) → ¬ LinesWithin most t ls) → room most t ≡ reportLength)
+room-lines most t = rooms.room-lines most t
 
 -- ---- each condition for itself
 -- Take a text that is read, a condition line of it, the one with the number k from 0, and a buffer with room.
@@ -169,11 +188,6 @@ pub weather-in-line : (s : Ship) (vs : List Row) (ln : ℕ) (l l′ : List ℕ) 
 weather-in-line s vs ln l l′ other = (answers-alike weathers-alike other s vs ln, in-timber other ln)
 
 -- ---- what is refused
--- A text of lines within its limit with a 25th condition line is refused with 5 there for the whole, whatever else it holds.
-pub five-at-25th : (most : ℕ) (front : List (List ℕ)) (l : List ℕ) (later : List (List ℕ)) → Lines (front ++ (l ∷ later)) → length (text (front ++ (l ∷ later))) ≤ most → conditionLines front ≡ mostConditions → getD l 0 0 ≡ conditionTag
-    → readWhole most (text (front ++ (l ∷ later))) ≡ refused 5 (1 + length front) 0
-five-at-25th most front l later B m c a = twenty-fifth most front l later B m c a
-
 -- A text of lines within its limit, of which at most 24 begin with A3, is refused with 2 for the whole exactly where the reading comes to a line whose frame runs past it, or that has one or two bytes:
 -- the first line; one behind the ship's and some rows' that is no condition line in its place; one behind condition lines that is none. The offset is 0.
 pub two-for-the-whole : (most : ℕ) (t : List ℕ) (ls : List (List ℕ)) → LinesWithin most t ls → (ln o : ℕ) → (readWhole most t ≡ refused 2 ln o) ↔ ((o ≡ 0) × (l : List ℕ) × MetWhole ls ln l × Overruns l)
@@ -183,6 +197,14 @@ two-for-the-whole most t ls C ln o = two-whole most t ls C ln o
 -- no A1 in the first line; behind the ship and rows within their limits neither an A2 nor an A3, or an A3 before the second row, or a 41st A2; behind condition lines, whatever these hold, anything that begins with another tag than A3.
 pub misplaced : (most : ℕ) (t : List ℕ) (ls : List (List ℕ)) → LinesWithin most t ls → (ln : ℕ) (l : List ℕ) → Misplaced ls ln l → (Overruns l → readWhole most t ≡ refused 2 ln 0) × (¬ Overruns l → readWhole most t ≡ refused 4 ln 0)
 misplaced most t ls C ln l m = (two-misplaced most t ls C ln l m, four-misplaced most t ls C ln l m)
+
+-- It is refused with 4 for the whole exactly there.
+pub four-for-the-whole : (most : ℕ) (t : List ℕ) (ls : List (List ℕ)) → LinesWithin most t ls → (ln o : ℕ) → (readWhole most t ≡ refused 4 ln o) ↔ ((o ≡ 0) × (l : List ℕ) × Misplaced ls ln l × (¬ Overruns l))
+four-for-the-whole most t ls C ln o = four-whole most t ls C ln o
+
+-- Every text is refused with 5 for the whole exactly where it is lines within its limit of which one is the 25th that begins with A3, at that line, whatever else it holds; or where at most 24 do, and the text is empty (line 0) or ends behind the ship and rows within their limits, at the number of its lines.
+pub five-for-the-whole : (most : ℕ) (t : List ℕ) (l o : ℕ) → (readWhole most t ≡ refused 5 l o) ↔ ((o ≡ 0) × (TwentyFifth most t l ⊎ ((ls : List (List ℕ)) × LinesWithin most t ls × NoCondition ls l)))
+five-for-the-whole most t l o = five-whole most t l o
 
 -- A condition of a text that is read is refused with 2, in its line and at an offset, exactly where in the text with that condition alone a block is met there whose length runs past its parent, or one or two bytes where a block would begin.
 pub two-in-line : (most : ℕ) (t : List ℕ) (b : Booklet) → readWhole most t ≡ got b → (k : ℕ) → k < length (b .conditions) → (o : ℕ)
@@ -204,9 +226,9 @@ pub lines-before-blocks : (most : ℕ) (t : List ℕ) (n l o : ℕ) → readWhol
 lines-before-blocks most t n l o e one five = lines-of-refused most t n l o e one five
 
 -- ---- where a refusal stands
--- A refusal for the whole has offset 0 and a line that fits two bytes; one of a condition line has that line, and an offset inside it.
-pub whole-place : (most : ℕ) (t : List ℕ) (n l o : ℕ) → most ≤ mostCharacters → readWhole most t ≡ refused n l o → (l < 65_536) × (o ≡ 0)
+-- A refusal for the whole has offset 0 and a line up to 60,000; one of a condition line has that line, and an offset inside it, below 4,099: both fit their two bytes.
+pub whole-place : (most : ℕ) (t : List ℕ) (n l o : ℕ) → most ≤ mostCharacters → readWhole most t ≡ refused n l o → (l ≤ 60_000) × (o ≡ 0)
 whole-place most t n l o h e = whole-fits most t h e
 
-pub condition-place : (ln : ℕ) (l : List ℕ) (n m o : ℕ) → conditionAt ln l ≡ refused n m o → (2 ≤ n) × (n ≤ 6) × (m ≡ ln) × (o < max 1 (length l))
+pub condition-place : (ln : ℕ) (l : List ℕ) (n m o : ℕ) → conditionAt ln l ≡ refused n m o → (2 ≤ n) × (n ≤ 6) × (m ≡ ln) × (o < max 1 (length l)) × (o < 4_099)
 condition-place ln l n m o e = let x = conditionAt-refusal ln l .holds n m o e in omega arith

@@ -20,7 +20,9 @@ pub mod Overrun
 pub mod OnlyOverrun
 pub mod LineOverrun
 pub mod Misplaced
+pub mod OnlyMisplaced
 pub mod FirstFault
 pub mod TwentyFifth
+pub mod NoneComes
 pub mod OtherTag
 pub mod Retagged

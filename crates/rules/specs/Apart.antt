@@ -97,3 +97,20 @@ pub data Misplaced : List (List ℕ) → ℕ → List ℕ → Type 0 where
   -- behind condition lines, whatever these hold, a line that is none
   noCondition : (s : Ship) (vs : List Row) (cs : List (List ℕ)) (l : List ℕ) (later : List (List ℕ)) → Led s vs → fewestRows ≤ length vs → BeginA3 cs → 1 ≤ length cs → getD l 0 0 ≢ conditionTag
       → Misplaced (lead s vs (cs ++ (l ∷ later))) (2 + length vs + length cs) l
+
+-- `NoCondition ls ln`: 'no A3': the lines ls, ln of them, are the ship's and some rows' and nothing behind them, or there are none.
+pub data NoCondition : List (List ℕ) → ℕ → Type 0 where
+  emptyText : NoCondition [] 0
+  frontAlone : (s : Ship) (vs : List Row) → Led s vs → NoCondition (lead s vs []) (1 + length vs)
+
+-- `TwentyFifth most t l`: the text is lines within `most` characters, and line l is the 25th that begins with A3. What else it holds may be anything.
+pub record TwentyFifth (most : ℕ) (t : List ℕ) (l : ℕ) : Type 0 where
+  pub front : List (List ℕ)
+  pub line : List ℕ
+  pub later : List (List ℕ)
+  pub spells : text (front ++ (line ∷ later)) ≡ t
+  pub lines : Lines (front ++ (line ∷ later))
+  pub long : length t ≤ most
+  pub before : conditionLines front ≡ mostConditions
+  pub begins : getD line 0 0 ≡ conditionTag
+  pub place : l ≡ 1 + length front

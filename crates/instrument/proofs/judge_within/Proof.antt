@@ -47,7 +47,7 @@ refuse-requires c κs =
     let m = f .before in
     let r = m .before .before .before .before in
     let z = whole-fits _ _ (omega (arith, r .before .least .ensures)) (refused-whole _ _ (r .read-text .result) (r .read-text .ensures) _ _ (m .enum-told .given .1) (f .fault .ensures)) in
-    (search needs, (z .0, omega (arith, z .1)))
+    (search needs, (omega (arith, z .0), omega (arith, z .1)))
 
 same-length : tie.Need-same-length
 same-length c = search needs

@@ -29,14 +29,14 @@ three-each (l ∷ ls) B =
     let d = length-append (hex l) (LF ∷ text ls) in
     omega arith
 
-no-line-place : {t : List ℕ} {l : ℕ} → FirstNoLine t l → 3 * l ≤ 3 + length t
-no-line-place (badLine front p rest L N) = let a = length-append (text front) (p ++ (LF ∷ rest)) in omega (arith, three-each front L)
+no-line-place : {t : List ℕ} {l : ℕ} → FirstNoLine t l → 3 * l ≤ 2 + length t
+no-line-place (badLine front p rest L N) = let a = length-append (text front) (p ++ (LF ∷ rest)) in omega (arith, three-each front L, length-append p (LF ∷ rest))
 no-line-place (openEnd front p L N s) = let a = length-append (text front) p in omega (arith, three-each front L)
 
 -- ---- for the whole
 -- Three characters a line, but for one that is none.
 abbrev Placed : ℕ → ℕ → ℕ → ℕ → Type 0
-Placed most n l o = (3 * l ≤ 3 + most) × (o ≡ 0)
+Placed most n l o = (3 * l ≤ 2 + most) × (o ≡ 0)
 
 counted-place : (most : ℕ) (t : List ℕ) → Refusal (Placed most) (countedLines most t)
 counted-place most t =
@@ -59,7 +59,7 @@ whole-place most t =
     let m = C .long in
     weaker (λ n l o x. omega arith) (bookFrames-refusal ls))
 
-pub whole-fits : (most : ℕ) (t : List ℕ) {n l o : ℕ} → most ≤ mostCharacters → readWhole most t ≡ refused n l o → (l < 65_536) × (o ≡ 0)
+pub whole-fits : (most : ℕ) (t : List ℕ) {n l o : ℕ} → most ≤ mostCharacters → readWhole most t ≡ refused n l o → (l ≤ 60_000) × (o ≡ 0)
 whole-fits most t h e = let x = whole-place most t .holds _ _ _ e in omega arith
 
 -- ---- of a condition

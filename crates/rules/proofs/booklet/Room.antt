@@ -3,7 +3,7 @@ use mathlib.Core.Path.{_≡_, refl, ap, sym, _∙_}
 use mathlib.Core.Logic.{_↔_}
 use mathlib.Core.Bool.{Bool, true, false}
 use mathlib.Core.List.{List, [], _∷_, _++_, map}
-use Prim.Native.Nat.{ℕ, _+_, _*_, _≤_, _<_}
+use Prim.Native.Nat.{ℕ, _+_, _*_, max, _≤_, _<_}
 use native.Mathlib.Omega.{arith}
 use lib.Dec.{ltb, eqb}
 use lib.ListN.{length, drop}
@@ -13,12 +13,13 @@ use Rattle.rules.specs.Layout.{mostConditions, conditionLines, Booklet}
 use Rattle.rules.specs.Outcome.{Ans, refused, got, _>>=_}
 use Rattle.rules.specs.Report.{Judgement, concat, reportLength}
 use Rattle.rules.specs.Booklet.{countedLines, bookFrames, readWhole}
+use Rattle.rules.specs.Apart.{LinesWithin}
 use Rattle.rules.specs.Answer.{reportOf, answerAt, answersFrom, answers, taken, firstNumber, number, room, roomFor}
 use Rattle.rules.proofs.walk.Outcome.{bind-inv, bind-got, bind-refused}
 use Rattle.rules.proofs.booklet.Counted.{lines-lead}
 use Rattle.rules.proofs.booklet.Frames.{frames-sound}
 use Rattle.rules.proofs.booklet.Refusals.{readWhole-refusal}
-use Rattle.rules.proofs.booklet.WholeText.{countedLines-sound}
+use Rattle.rules.proofs.booklet.WholeText.{countedLines-sound, countedLines-got}
 use Rattle.rules.proofs.booklet.Conditions.{answer-refusal}
 use Rattle.rules.proofs.booklet.Sent.{Gives, gives-refusal, gives-reports, past-one, past-all, under-one, under-all}
 
@@ -45,6 +46,14 @@ room-read most t b e =
     let r = room-counted most t ∙ ap roomFor (a .1) in
     let z = F .some in
     omega arith
+
+-- Lines within the limit, of which at most 24 begin with A3, ask for 209 bytes for each of these, and for 209 where there is none; every other text for 209.
+pub room-lines : (most : ℕ) (t : List ℕ) → ((ls : List (List ℕ)) → LinesWithin most t ls → room most t ≡ max reportLength (reportLength * conditionLines ls)) × (((ls : List (List ℕ)) → ¬ LinesWithin most t ls) → room most t ≡ reportLength)
+room-lines most t = (λ ls C. room-counted most t ∙ ap roomFor (countedLines-got most t ls C), λ none. room-counted most t ∙ go none (countedLines most t) refl)
+  where
+    go : ((ls : List (List ℕ)) → ¬ LinesWithin most t ls) → (a : Ans (List (List ℕ))) → countedLines most t ≡ a → roomFor (countedLines most t) ≡ reportLength
+    go none (refused n l o) e = ap roomFor e
+    go none (got ls) e = absurd (none ls (countedLines-sound most t ls e))
 
 module _ (most : ℕ) (t buffer : List ℕ) where
   -- ---- with room
