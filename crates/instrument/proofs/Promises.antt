@@ -26,7 +26,7 @@ use Rattle.rules.specs.Report.{judgement, noJudgement, concat, report, reportLe
 use Rattle.rules.specs.Columns.{figureIn, verdictIn}
 use Rattle.rules.specs.Met.{Overruns}
 use Rattle.rules.specs.Places.{Placed, SameBefore, lookedAt}
-use Rattle.rules.specs.Booklet.{readWhole}
+use Rattle.rules.specs.Booklet.{readWhole, conditionAt}
 use Rattle.rules.specs.Apart.{spellBooklet, AllowedWhole, AllowedLine, LinesWithin, lineAt, readingAt, alone, respelt, LastAlone, Misplaced, lineNumber}
 use Rattle.rules.specs.Answer.{answered, numberOf, reportOf, inLine, number, bytesSent, written, limited}
 use Rattle.rules.specs.Answer as answers
@@ -56,7 +56,7 @@ use Rattle.instrument.proofs.Faults as faults
 use Rattle.instrument.proofs.LineReport as lines
 use Rattle.instrument.proofs.LineFigures.{figures-of-leaves}
 use Rattle.instrument.proofs.EitherSet as sets
-use Rattle.instrument.proofs.TwoLines.{by-sums}
+use Rattle.instrument.proofs.TwoLines.{by-sums, fault-alike}
 use Rattle.instrument.proofs.Apart as apart
 use Rattle.instrument.proofs.OneTag as tags
 use Rattle.instrument.proofs.OfOne as ones
@@ -342,6 +342,14 @@ first-fault text text′ before before′ n n′ after after′ run run′ enoug
     let q = booklets.first-fault mostCharacters text text′ front later later′ l l′ n C C′ A five (x .refusal ∙ ap (λ m. refused n m 0) e) in
     let s = refusal-reported text′ before′ n′ after′ run′ enough′ n (1 + length front) 0 q in
     (sym (s .0), x .reported ∙ ap (λ m. report n m 0 noJudgement) e ∙ sym (s .1))
+
+-- Nor does a condition's refusal up to 6 depend on anything behind the block that it names: of two condition lines, of one text or of two, each with room, that have one length and are the same as far as the first one's refusal looks, both reports are the same but for the line that they name.
+pub first-fault-in-line : (text text′ before before′ : List ℕ) (n n′ : ℕ) (after after′ : List ℕ) → Judges text before n after → Judges text′ before′ n′ after′
+    → answers.room mostCharacters text ≤ length before → answers.room mostCharacters text′ ≤ length before′
+    → (a : AllowedWhole mostCharacters text) (a′ : AllowedWhole mostCharacters text′) (k k′ : ℕ) → k < length (a .0 .conditions) → k′ < length (a′ .0 .conditions)
+    → (m o : ℕ) → conditionAt (lineNumber (a .0) k) (lineAt (a .0) k) ≡ refused m (lineNumber (a .0) k) o → SameBefore (lookedAt (lineAt (a .0) k) m o) (lineAt (a .0) k) (lineAt (a′ .0) k′) → SameButLine (reportIn k after) (reportIn k′ after′)
+first-fault-in-line text text′ before before′ n n′ after after′ run run′ enough enough′ a a′ k k′ h h′ m o e same =
+    fault-alike (line text before n after run enough a k h) (line text′ before′ n′ after′ run′ enough′ a′ k′ h′) m o e same (omega arith)
 
 -- ---- texts of one condition, or of none
 -- A text of which no line but the last begins with A3, as document 01 has every text that it reads, is answered as document 01 answers it, read or refused, and 209 bytes are room for it: the number and the one report are of that answer, and every byte beyond is as it was.

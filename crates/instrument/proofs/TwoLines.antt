@@ -16,6 +16,7 @@ use Rattle.rules.specs.Leaves.{sumLeaves, SameSums}
 use Rattle.rules.specs.Cargo.{MadeCargo}
 use Rattle.rules.specs.Report.{Judgement}
 use Rattle.rules.specs.Columns.{figureIn}
+use Rattle.rules.specs.Places.{SameBefore, lookedAt}
 use Rattle.rules.specs.Booklet.{conditionAt}
 use Rattle.rules.specs.Apart.{AllowedLine}
 use Rattle.rules.specs.Answer.{reportOf, inLine}
@@ -23,6 +24,8 @@ use Rattle.rules.proofs.loading.Sums.{judged-by-sums}
 use Rattle.rules.proofs.loading.Cargo.{sums-below, sums-full}
 use Rattle.rules.proofs.booklet.LineOnly.{in-line-only}
 use Rattle.rules.proofs.booklet.Conditions.{condition-sound, answer-refused}
+use Rattle.rules.proofs.booklet.Relined.{refused-there}
+use Rattle.rules.proofs.booklet.FirstFault.{condition-fault}
 use Rattle.instrument.specs.Reported.{numberIn, HasNumber, RefusedLine, SameButLine}
 use Rattle.instrument.proofs.LineReport.{Reports, line-got, by-line, of-reading, has-refused, refused-iff}
 use Rattle.instrument.proofs.LineFigures.{figures-of-leaves}
@@ -49,6 +52,10 @@ module _ {s s′ : Ship} {vs vs′ : List Row} {ln ln′ : ℕ} {l l′ r r′ :
 
   pub tested-alike : ((n m o : ℕ) → conditionAt ln l ≡ refused n m o → conditionAt ln′ l′ ≡ refused n ln′ o) → 1 ≤ ln → RefusedLine r → SameButLine r r′
   tested-alike f h x = by-line q (λ n o _ _ e. alike-but-line n o e (f n ln o e) h) (λ c. absurd (refused-iff q .0 .0 x c))
+
+  -- What is refused up to 6 depends on nothing behind the block that is named.
+  pub fault-alike : (n o : ℕ) → conditionAt ln l ≡ refused n ln o → SameBefore (lookedAt l n o) l l′ → 1 ≤ ln → SameButLine r r′
+  fault-alike n o e same h = alike-but-line n o e (refused-there ln ln′ l′ (condition-fault n ln o l l′ same ln (q .tag) e)) h
 
   -- ---- read with the same sums
   pub by-sums : (c : AllowedLine l) (c′ : AllowedLine l′) → SameSums (record { ship = s; rows = vs; condition = c .0 }) (record { ship = s′; rows = vs′; condition = c′ .0 }) → r ≡ r′

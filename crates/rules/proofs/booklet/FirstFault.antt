@@ -33,7 +33,7 @@ module _ (a b o : ℕ) (l l′ : List ℕ) (A : SameBefore (lookedAt l a o) l l�
   row-fault : (ln k p : ℕ) → (isCondition l && leb fewestRows k) ≡ false → (isCondition l′ && leb fewestRows k) ≡ false → rowAt ln k p l ≡ refused a b o → rowAt ln k p l′ ≡ refused a b o
   row-fault ln k p d d′ e = bind-last _ _ (sym (frame-due ln k p l′ d′) ∙ frame-fault ln a b o l l′ A k p (frame-due ln k p l d ∙ bind-refused _ e))
 
-  condition-fault : (ln : ℕ) → getD l 0 0 ≡ conditionTag → conditionAt ln l ≡ refused a b o → conditionAt ln l′ ≡ refused a b o
+  pub condition-fault : (ln : ℕ) → getD l 0 0 ≡ conditionTag → conditionAt ln l ≡ refused a b o → conditionAt ln l′ ≡ refused a b o
   condition-fault ln t e =
       bind-last _ _ (sym (frame-condition ln 2 0 l′ (sym same-tag ∙ t) (omega arith)) ∙ frame-fault ln a b o l l′ A 2 0 (frame-condition ln 2 0 l t (omega arith) ∙ bind-refused _ e))
 

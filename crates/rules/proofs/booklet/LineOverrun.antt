@@ -1,5 +1,5 @@
 -- Refusal 2 of a condition line: exactly where the reading of the text with that line alone comes to a block that overruns.
-use mathlib.Core.Path.{_≡_, refl, ap, sym, _∙_}
+use mathlib.Core.Path.{_≡_, refl, sym, _∙_}
 use mathlib.Core.Logic.{_↔_}
 use mathlib.Core.List.{List}
 use Prim.Native.Nat.{ℕ, _+_, _<_}
@@ -8,21 +8,17 @@ use lib.ListN.{length}
 use Rattle.rules.specs.Outcome.{refused, got}
 use Rattle.rules.specs.Met.{Met, Overruns}
 use Rattle.rules.specs.Layout.{Booklet}
-use Rattle.rules.specs.Booklet.{readWhole, conditionAt}
+use Rattle.rules.specs.Booklet.{readWhole}
 use Rattle.rules.specs.Apart.{linesOf, lineAt, alone}
 use Rattle.rules.specs.Answer.{answer}
 use Rattle.rules.proofs.walk.Outcome.{bind-last, bind-refused}
 use Rattle.rules.proofs.walk.OnlyOverrun.{two-frames}
 use Rattle.rules.proofs.booklet.Frames.{framed, Lines-booklet}
 use Rattle.rules.proofs.booklet.WholeText.{sound}
-use Rattle.rules.proofs.booklet.Relined.{relined, condition-relined}
+use Rattle.rules.proofs.booklet.Relined.{refused-there}
 use Rattle.rules.proofs.booklet.Conditions.{answer-own, answer-refused}
 use Rattle.rules.proofs.booklet.Alone.{answer-at, alone-read}
 use Rattle.rules.proofs.booklet.OfOne.{frames-of-one}
-
--- With another number a condition line is refused as it is, there.
-refused-there : (ln ln′ : ℕ) (l : List ℕ) {n m o : ℕ} → conditionAt ln l ≡ refused n m o → conditionAt ln′ l ≡ refused n ln′ o
-refused-there ln ln′ l e = condition-relined ln′ ln l ∙ ap (relined ln′) e
 
 module _ (most : ℕ) (t : List ℕ) (b : Booklet) (e : readWhole most t ≡ got b) (k : ℕ) (h : k < length (b .conditions)) where
   abbrev line : List ℕ

@@ -1,5 +1,5 @@
 -- The walk of a condition at line ln and at line ln′ differ in the line only.
-use mathlib.Core.Path.{_≡_, refl}
+use mathlib.Core.Path.{_≡_, refl, ap, _∙_}
 use mathlib.Core.Bool.{Bool, true, false, cond}
 use mathlib.Core.List.{List, [], _∷_}
 use Prim.Native.Nat.{ℕ, zero, suc}
@@ -102,3 +102,7 @@ module _ (ln ln′ : ℕ) where
   pub condition-relined : (l : List ℕ) → conditionAt ln l ≡ relined ln (conditionAt ln′ l)
   unfolding conditionAt conditionIn
   condition-relined l = bind-relined ln _ _ _ _ (header-relined 0 l) (λ h. test-relined ln ln′ _ _ _ _ _ (test-relined ln ln′ _ _ _ _ _ (inside-relined (h .body))))
+
+-- In another line a condition line is refused as it is, there.
+pub refused-there : (ln ln′ : ℕ) (l : List ℕ) {n m o : ℕ} → conditionAt ln l ≡ refused n m o → conditionAt ln′ l ≡ refused n ln′ o
+refused-there ln ln′ l e = condition-relined ln′ ln l ∙ ap (relined ln′) e
