@@ -9,9 +9,9 @@ use lib.ListN.{length, take, drop, getD, length-set}
 use Rattle.rules.specs.Numbers.{Bytes}
 use Rattle.rules.specs.Text.{text, Lines}
 use Rattle.rules.specs.Blocks.{block, conditionTag, Ship, Row, code, timber, Tank}
-use Rattle.rules.specs.Layout.{Entries, Condition, spellCondition, mostCharacters, mostConditions, ConditionLimits, conditionLines, Booklet}
+use Rattle.rules.specs.Layout.{Entries, Condition, Reading, spellCondition, mostCharacters, mostConditions, ConditionLimits, conditionLines, Booklet}
 use Rattle.rules.specs.Outcome.{refused, got}
-use Rattle.rules.specs.Walk.{linesFrom}
+use Rattle.rules.specs.Walk.{linesFrom, read}
 use Rattle.rules.specs.Report.{reportLength}
 use Rattle.rules.specs.Met.{lead, Met, Overruns}
 use Rattle.rules.specs.Places.{FramesFill, ConditionFills, SameBefore, lookedAt}
@@ -153,6 +153,10 @@ beyond-kept most t buffer b e r = reports.beyond-kept b most t buffer e r
 -- A text of which no line but the last begins with A3 is answered as `answered` says, of which Reading promises more: it is refused for the whole as there, or its one condition is answered so. 209 bytes are room for it.
 pub of-one : (t : List ℕ) → LastAlone t → ((n l o : ℕ) → readWhole mostCharacters t ≡ refused n l o → answered t ≡ refused n l o) × ((b : Booklet) → readWhole mostCharacters t ≡ got b → answers b ≡ answered t ∷ []) × (room mostCharacters t ≡ reportLength)
 of-one t last = (λ n l o e. ones.refused-last t last e, λ b e. ones.of-one mostCharacters t b e (omega arith) (ones.one-of-last t last b e), ones.room-last t last)
+
+-- Every text that `read` reads is such a text.
+pub read-is-one : (t : List ℕ) (r : Reading) → read t ≡ got r → LastAlone t
+read-is-one t r e = ones.read-alone t r e
 
 -- ---- cargo tanks
 -- A C5 is tested as a C3. Take a text of lines within its limit and a block in it that begins with C3: a frame, the first block of a condition that fills its line, or one further on where blocks stand end to end, in groups or not. It may be well or ill, and so may what stands before it and behind it. Let it begin with C5:

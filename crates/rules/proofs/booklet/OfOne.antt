@@ -8,7 +8,7 @@ use lib.Dec.{leb}
 use lib.ListN.{length, getD}
 use borrow.Author.Tests.{leb-true, eqb-true}
 use Rattle.rules.specs.Blocks.{block, spellBlock, Ship, Row, conditionTag}
-use Rattle.rules.specs.Layout.{Condition, Reading, fewestRows, mostCharacters, isCondition, conditionLines, Booklet}
+use Rattle.rules.specs.Layout.{Condition, Reading, rowFrames, frames, fewestRows, mostCharacters, isCondition, conditionLines, Booklet}
 use Rattle.rules.specs.Outcome.{Ans, refused, got, _>>=_}
 use Rattle.rules.specs.Walk.{linesFrom, closed, Tail, after, tail, readFrames, read}
 use Rattle.rules.specs.Met.{behindRows, lead}
@@ -17,9 +17,9 @@ use Rattle.rules.specs.Apart.{linesOf, spellBooklet, LinesWithin, lineAt
 use Rattle.rules.specs.Report.{reportLength}
 use Rattle.rules.specs.Answer.{answered, answerAt, answersFrom, answers, room, roomFor}
 use Rattle.rules.proofs.layout.Fields.{both-true}
-use Rattle.rules.proofs.layout.Lines.{lines-sound}
+use Rattle.rules.proofs.layout.Lines.{lines-sound, lines-got}
 use Rattle.rules.proofs.walk.Outcome.{bind-got, bind-refused, test-got, test-refused, bind-cong, bind-bind, bind-chain}
-use Rattle.rules.proofs.walk.WholeText.{read-steps, read-lines}
+use Rattle.rules.proofs.walk.WholeText.{read-steps, read-lines, lines-of-reading}
 use Rattle.rules.proofs.answer.Steps.{answered-refused, answered-read}
 use Rattle.rules.proofs.booklet.Counted.{lines-a3, lines-other, behind-a3, behind-row, countedLines-steps, lines-lead}
 use Rattle.rules.proofs.booklet.Frames.{Framed, framed, frames-got, Lines-booklet}
@@ -166,3 +166,16 @@ module _ (t : List ℕ) (A : LastAlone t) where
       go : (a : Ans (List (List ℕ))) → countedLines mostCharacters t ≡ a → roomFor a ≡ reportLength
       go (refused n l o) e = refl
       go (got ls) e = let C = countedLines-sound mostCharacters t ls e in omega (arith, last-count ls (A ls (C .lines) (C .spells)))
+
+-- ---- what `read` reads is such a text
+frames-alone : (vs : List Row) (c : Condition) → OnlyLast (rowFrames vs c)
+unfolding rowFrames OnlyLast spellBlock block
+frames-alone [] c = (λ e. refl, tt)
+frames-alone (v ∷ vs) c = (λ e. absurd (omega arith), frames-alone vs c)
+
+pub read-alone : (t : List ℕ) (r : Reading) → read t ≡ got r → LastAlone t
+unfolding frames OnlyLast spellBlock block
+read-alone t r e ls B p =
+    let q : _≡_ {A = Ans (List (List ℕ))} (got (frames r)) (got ls) = sym (lines-of-reading t r e) ∙ ap (linesFrom 1) (sym p) ∙ lines-got ls 1 B in
+    let same : frames r ≡ ls = cc in
+    rw (← same) (λ x. absurd (omega arith), frames-alone (r .rows) (r .condition))
