@@ -34,31 +34,31 @@ twenty-fifth {most} z =
     rw (← (z .spells), z .place)
     (bind-refused _ (lines-counted most ls (z .lines) (rw (z .spells) (z .long)) ∙ bind-refused _ (counted-over (z .front) (z .line) (z .later) 1 (1 + length (z .front)) mostConditions (z .before) (begins (z .line) (z .begins)) refl)))
 
--- ---- nothing else is refused with 5 before the blocks
+-- ---- before the blocks nothing else is refused with 5
 -- Of lines of which n may yet begin with A3, the first with the number ln, that one which is too many.
-record Over (n ln : ℕ) (ls : List (List ℕ)) (l : ℕ) : Type 0 where
-  front : List (List ℕ)
-  line : List ℕ
-  later : List (List ℕ)
-  lines : front ++ (line ∷ later) ≡ ls
-  before : conditionLines front ≡ n
-  begins : getD line 0 0 ≡ conditionTag
-  place : l ≡ ln + length front
+pub record TooMany (n ln : ℕ) (ls : List (List ℕ)) (l : ℕ) : Type 0 where
+  pub front : List (List ℕ)
+  pub line : List ℕ
+  pub later : List (List ℕ)
+  pub lines : front ++ (line ∷ later) ≡ ls
+  pub before : conditionLines front ≡ n
+  pub begins : getD line 0 0 ≡ conditionTag
+  pub place : l ≡ ln + length front
 
-one-on : {n m ln x : ℕ} {ls : List (List ℕ)} (l : List ℕ) → ((front : List (List ℕ)) → conditionLines front ≡ m → conditionLines (l ∷ front) ≡ n) → Over m (ln + 1) ls x → Over n ln (l ∷ ls) x
+one-on : {n m ln x : ℕ} {ls : List (List ℕ)} (l : List ℕ) → ((front : List (List ℕ)) → conditionLines front ≡ m → conditionLines (l ∷ front) ≡ n) → TooMany m (ln + 1) ls x → TooMany n ln (l ∷ ls) x
 one-on l f z = record { front = l ∷ z .front; line = z .line; later = z .later; lines = ap (l ∷_) (z .lines); before = f (z .front) (z .before); begins = z .begins; place = omega (arith, z .place) }
 
-only-over : (ls : List (List ℕ)) (ln n : ℕ) → Refusal (λ m l o. (o ≡ 0) × Over n ln ls l) (counted ln n ls)
+pub counted-only : (ls : List (List ℕ)) (ln n : ℕ) → Refusal (λ m l o. (m ≡ 5) × (o ≡ 0) × TooMany n ln ls l) (counted ln n ls)
 unfolding counted conditionLines
-only-over [] ln n = given
-only-over (l ∷ ls) ln n = go (λ n. only-over ls (ln + 1) n) (isCondition l) refl
+counted-only [] ln n = given
+counted-only (l ∷ ls) ln n = go (λ n. counted-only ls (ln + 1) n) (isCondition l) refl
   where
-    go : ((n : ℕ) → Refusal (λ m x o. (o ≡ 0) × Over n (ln + 1) ls x) (counted (ln + 1) n ls)) → (c : Bool) → isCondition l ≡ c → Refusal (λ m x o. (o ≡ 0) × Over n ln (l ∷ ls) x) (counted ln n (l ∷ ls))
+    go : ((n : ℕ) → Refusal (λ m x o. (m ≡ 5) × (o ≡ 0) × TooMany n (ln + 1) ls x) (counted (ln + 1) n ls)) → (c : Bool) → isCondition l ≡ c → Refusal (λ m x o. (m ≡ 5) × (o ≡ 0) × TooMany n ln (l ∷ ls) x) (counted ln n (l ∷ ls))
     go H true p =
         rw (counted-a3 l ls ln n p)
-        (test-cases _ _ _ _ _ (λ c. (refl, record { front = []; line = l; later = ls; lines = refl; before = omega (arith, ltb-false 0 n c); begins = eqb-true _ _ p; place = omega arith })) (λ c.
-        weaker (λ m x o y. (y .0, one-on l (λ f e. omega (arith, lines-a3 l f p, ltb-true 0 n c)) (y .1))) (H (n - 1))))
-    go H false p = rw (counted-other l ls ln n p) (weaker (λ m x o y. (y .0, one-on l (λ f e. lines-other l f p ∙ e) (y .1))) (H n))
+        (test-cases _ _ _ _ _ (λ c. (refl, refl, record { front = []; line = l; later = ls; lines = refl; before = omega (arith, ltb-false 0 n c); begins = eqb-true _ _ p; place = omega arith })) (λ c.
+        weaker (λ m x o y. (y .0, y .1, one-on l (λ f e. omega (arith, lines-a3 l f p, ltb-true 0 n c)) (y .2))) (H (n - 1))))
+    go H false p = rw (counted-other l ls ln n p) (weaker (λ m x o y. (y .0, y .1, one-on l (λ f e. lines-other l f p ∙ e) (y .2))) (H n))
 
 pub only-twenty-fifth : (most : ℕ) (t : List ℕ) → Refusal (λ n l o. n ≡ 5 → (o ≡ 0) × TwentyFifth most t l) (countedLines most t)
 only-twenty-fifth most t =
@@ -67,5 +67,5 @@ only-twenty-fifth most t =
     bind-refusal _ _ (weaker (λ n l o x e. absurd (omega (arith, x .0))) (lines-bad 1 t)) (λ ls els.
     let s = lines-sound 1 t ls els in
     bind-refusal _ _ (weaker (λ n l o x e.
-    let z = x .1 in
-    (x .0, record { front = z .front; line = z .line; later = z .later; spells = ap text (z .lines) ∙ s .0; lines = rw (z .lines) (s .1); long = leb-true (length t) most c; before = z .before; begins = z .begins; place = z .place })) (only-over ls 1 mostConditions)) (λ u eu. given))))
+    let z = x .2 in
+    (x .1, record { front = z .front; line = z .line; later = z .later; spells = ap text (z .lines) ∙ s .0; lines = rw (z .lines) (s .1); long = leb-true (length t) most c; before = z .before; begins = z .begins; place = z .place })) (counted-only ls 1 mostConditions)) (λ u eu. given))))
