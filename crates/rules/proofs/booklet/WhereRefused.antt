@@ -3,7 +3,7 @@ use mathlib.Core.Path.{_≡_, refl, ap, sym, _∙_}
 use mathlib.Core.Logic.{_↔_, _⊎_, inl, inr}
 use mathlib.Core.Bool.{Bool, true, false, true≢false, _&&_}
 use mathlib.Core.List.{List, [], _∷_, _++_, append-assoc, append-nil}
-use Prim.Native.Nat.{ℕ, _+_, _-_, _≤_, _<_}
+use Prim.Native.Nat.{ℕ, _+_, _≤_, _<_}
 use native.Mathlib.Omega.{arith}
 use lib.Dec.{leb}
 use lib.ListN.{length, getD, length-append}
@@ -87,13 +87,15 @@ module _ (s : Ship) (vs : List Row) (L : Led s vs) where
       test-cases _ _ _ _ _ (λ d. begun-misplaced (2 + length vs) l h eh (noRow s vs l later L (λ t. omega (arith, L .many, ltb-false (length vs) mostRows d)) (early l q))) (λ d.
       bind-refusal _ _ (fixed-stands (2 + length vs) row h) (λ v ev. test-refusal _ _ _ _ _ (outside (2 + length vs)) given))))
 
--- ---- behind the ship and some rows: whatever rises from W = p on, rises behind those rows
+-- ---- behind the ship and some rows
+none-at : {ls : List (List ℕ)} {k ln : ℕ} → NoCondition ls k → ln ≡ k → Stands ls 5 ln 0
+none-at c q = rw q (noneComes _ c)
+
+-- Whatever rises from W = p on, rises behind those rows.
 behind-stands : (ls : List (List ℕ)) (s : Ship) (vs : List Row) (ln k p : ℕ) → Lines ls → ok ship s ≡ true → ((ws : List Row) → Rising p ws → Rising 0 (vs ++ ws)) → length vs ≤ mostRows → ln ≡ 2 + length vs → k ≡ length vs
     → Refusal (Stands (lead s vs ls)) (behindShip ls ln k p)
 unfolding behindShip Lines Rising BeginA3
-behind-stands [] s vs ln k p B h up m a b =
-    let z : ln - 1 ≡ 1 + length vs = omega arith in
-    rw z (plain (noneComes (1 + length vs) (frontAlone s vs (record { hull = h; rising = rw append-nil at (up [] tt); many = m }))))
+behind-stands [] s vs ln k p B h up m a b = plain (none-at (frontAlone s vs (record { hull = h; rising = rw append-nil at (up [] tt); many = m })) (omega arith))
 behind-stands (l ∷ ls) s vs ln k p B h up m a b = rw (a, b) (go (λ vs ln k p. behind-stands ls s vs ln k p (B .2) h) (isCondition l && leb fewestRows (length vs)) refl)
   where
     L : Led s vs
@@ -144,7 +146,7 @@ four-whole most t ls C ln o = (λ e. go (whole-stands most t ls C .holds 4 ln o 
 none-refused : {ls : List (List ℕ)} {ln : ℕ} → NoCondition ls ln → bookFrames ls ≡ refused 5 ln 0
 unfolding bookFrames behindShip
 none-refused emptyText = refl
-none-refused (frontAlone s vs L) = let z : 2 + length vs - 1 ≡ 1 + length vs = omega arith in led-behind s vs [] L (λ q. refl) ∙ ap (λ x. refused 5 x 0) z
+none-refused (frontAlone s vs L) = led-behind s vs [] L (λ q. ap (λ x. refused 5 x 0) (omega arith))
 
 pub five-whole : (most : ℕ) (t : List ℕ) (l o : ℕ) → (readWhole most t ≡ refused 5 l o) ↔ ((o ≡ 0) × (TwentyFifth most t l ⊎ ((ls : List (List ℕ)) × LinesWithin most t ls × NoCondition ls l)))
 unfolding readWhole
