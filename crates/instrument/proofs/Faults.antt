@@ -26,9 +26,7 @@ use Rattle.rules.proofs.booklet.WholeText.{lines-of-refused}
 use Rattle.rules.proofs.booklet.Conditions.{answer-refused, answer-refusal}
 use Rattle.rules.proofs.booklet.Sent.{answers-length}
 use Rattle.rules.proofs.booklet.Alone.{answer-at}
-use Rattle.rules.proofs.booklet.OnlyOverrun.{two-whole}
-use Rattle.rules.proofs.booklet.OnlyMisplaced.{four-whole}
-use Rattle.rules.proofs.booklet.NoneComes.{five-whole}
+use Rattle.rules.proofs.booklet.WhereRefused.{two-whole, four-whole, five-whole}
 use Rattle.rules.proofs.booklet.LineOverrun.{two-line}
 use Rattle.instrument.specs.Faults.{NoLineAt, WholeOverrunAt, MisplacedAt, OwedAt, LineOverrunAt}
 use Rattle.instrument.specs.Reported.{reportIn, HasNumber, RefusedWhole}

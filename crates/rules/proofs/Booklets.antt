@@ -27,8 +27,6 @@ use Rattle.rules.proofs.booklet.WholeText.{lines-of-refused, whole-iff-
 use Rattle.rules.proofs.booklet.Conditions.{condition-iff-allowed, condition-unique}
 use Rattle.rules.proofs.booklet.WholeText as whole
 use Rattle.rules.proofs.booklet.Conditions as lines
-use Rattle.rules.proofs.booklet.OnlyMisplaced.{four-whole}
-use Rattle.rules.proofs.booklet.NoneComes.{five-whole}
 use Rattle.rules.proofs.booklet.Room as rooms
 use Rattle.rules.proofs.booklet.Reports as reports
 use Rattle.rules.proofs.booklet.LineOnly.{in-line-only}
@@ -36,9 +34,9 @@ use Rattle.rules.proofs.booklet.Alone as alones
 use Rattle.rules.proofs.booklet.OfOne as ones
 use Rattle.rules.proofs.booklet.PlaceFits.{whole-fits}
 use Rattle.rules.proofs.booklet.InsideParent.{lines-of-booklet, front-fills, line-fills}
-use Rattle.rules.proofs.booklet.OnlyOverrun.{two-whole}
 use Rattle.rules.proofs.booklet.LineOverrun.{two-line}
 use Rattle.rules.proofs.booklet.Misplaced.{two-misplaced, four-misplaced}
+use Rattle.rules.proofs.booklet.WhereRefused.{two-whole, four-whole, five-whole}
 use Rattle.rules.proofs.booklet.FirstFault.{whole-fault, fault-in-line}
 use Rattle.rules.proofs.booklet.OtherTag.{answers-alike, refused-alike, read-other}
 use Rattle.rules.proofs.booklet.Retagged.{made-cargo, in-timber}

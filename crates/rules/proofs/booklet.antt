@@ -17,12 +17,10 @@ pub mod Readings
 pub mod PlaceFits
 pub mod InsideParent
 pub mod Overrun
-pub mod OnlyOverrun
 pub mod LineOverrun
 pub mod Misplaced
-pub mod OnlyMisplaced
 pub mod FirstFault
 pub mod TwentyFifth
-pub mod NoneComes
+pub mod WhereRefused
 pub mod OtherTag
 pub mod Retagged

@@ -23,7 +23,7 @@ use Rattle.rules.proofs.booklet.WholeText.{read-blocks}
 use Rattle.rules.proofs.booklet.Overrun.{no-condition, led-behind, conditions-behind, frames-overrun}
 
 -- The reading comes to it, and it has bytes.
-met : {ls : List (List ℕ)} {ln : ℕ} {l : List ℕ} → Misplaced ls ln l → MetWhole ls ln l
+pub met : {ls : List (List ℕ)} {ln : ℕ} {l : List ℕ} → Misplaced ls ln l → MetWhole ls ln l
 met (noShip l later h) = firstLine l later
 met (noRow s vs l later L a b) = dueRow s vs l later L (λ f e. let x = b e in omega arith)
 met (noCondition s vs cs l later L f B n h) = behindConditions s vs cs l later L f B n h

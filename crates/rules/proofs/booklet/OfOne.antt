@@ -49,7 +49,7 @@ last-a3 l ln k p q =
 
 tail-last : (ls : List (List ℕ)) (ln k p : ℕ) → OnlyLast ls → tail ls ln k p ≡ (behindShip ls ln k p >>= tailOf ln)
 unfolding OnlyLast tail after behindShip
-tail-last [] ln k p O = sym (bind-refused (tailOf ln) refl)
+tail-last [] ln k p O = sym (bind-refused (tailOf ln) (ap (λ x. refused 5 x 0) (omega arith)))
 tail-last (l ∷ ls) ln k p O = go (λ k p. tail-last ls (ln + 1) k p (O .1)) (isCondition l && leb fewestRows k) refl
   where
     -- A row, and what is behind it.

@@ -1,12 +1,12 @@
 -- Every refusal for the whole text has a number from 1 to 6, and one by its blocks a line of the text and offset 0; a condition's refusal has a number from 2 to 6, its own line and an offset inside it.
-use mathlib.Core.Path.{_≡_, refl}
+use mathlib.Core.Path.{_≡_, refl, ap}
 use mathlib.Core.Logic.{_≢_}
 use mathlib.Core.Bool.{Bool, true, false, _&&_}
 use mathlib.Core.List.{List, [], _∷_}
 use Prim.Native.Nat.{ℕ, _+_, _-_, max, min, _≤_}
 use native.Mathlib.Omega.{arith}
 use lib.Dec.{leb}
-use lib.ListN.{length}
+use lib.ListN.{length, length-append}
 use borrow.Author.Tests.{leb-true}
 use Rattle.rules.specs.Layout.{fewestRows, mostBytes, isCondition}
 use Rattle.rules.specs.Walk.{conditionIn}
@@ -14,7 +14,8 @@ use Rattle.rules.specs.Booklet.{counted, countedLines, rowAt, onlyCondit
 use Rattle.rules.proofs.walk.Heads.{header-splits}
 use Rattle.rules.proofs.walk.Refusals.{Refusal, given, plain, weaker, bind-refusal, test-cases, test-refusal, NumberFrom, At, Between, header-refusal, inside-refusal, row-refusal, shipFrame-refusal, closed-refusal}
 use Rattle.rules.proofs.walk.BadLine.{lines-bad}
-use Rattle.rules.proofs.booklet.Counted.{countedLines-steps, counted-a3, counted-other, only-a3, only-other, behind-a3, behind-row}
+use Rattle.rules.proofs.booklet.Counted.{countedLines-steps, only-a3, only-other, behind-a3, behind-row}
+use Rattle.rules.proofs.booklet.TwentyFifth.{counted-only}
 
 -- A number from 2 to 6, from one line to another, and no offset.
 abbrev pub Among : ℕ → ℕ → ℕ → ℕ → ℕ → Type 0
@@ -33,13 +34,9 @@ abbrev Over : List (List ℕ) → ℕ → ℕ → ℕ → ℕ → Type 0
 Over ls ln n l o = (n ≡ 5) × (ln ≤ l) × (l ≤ ln + length ls - 1) × (o ≡ 0)
 
 pub counted-refusal : (ls : List (List ℕ)) (ln n : ℕ) → Refusal (Over ls ln) (counted ln n ls)
-unfolding counted
-counted-refusal [] ln n = given
-counted-refusal (l ∷ ls) ln n = go (λ n. counted-refusal ls (ln + 1) n) (isCondition l) refl
-  where
-    go : ((n : ℕ) → Refusal (Over ls (ln + 1)) (counted (ln + 1) n ls)) → (c : Bool) → isCondition l ≡ c → Refusal (Over (l ∷ ls) ln) (counted ln n (l ∷ ls))
-    go H true p = rw (counted-a3 l ls ln n p) (test-refusal _ _ _ _ _ (omega arith) (weaker (λ n l o x. omega arith) (H (n - 1))))
-    go H false p = rw (counted-other l ls ln n p) (weaker (λ n l o x. omega arith) (H n))
+counted-refusal ls ln n = weaker (λ m l o x.
+    let z = x .2 in
+    omega (arith, ap length (z .lines), length-append (z .front) (z .line ∷ z .later), z .place)) (counted-only ls ln n)
 
 -- 1, or the 25th.
 pub countedLines-refusal : (most : ℕ) (t : List ℕ) → Refusal (λ n l o. NumberFrom 1 n × (n ≢ 1 → n ≡ 5)) (countedLines most t)

@@ -24,11 +24,11 @@ use Rattle.rules.proofs.walk.Refusals.{Refusal, given, plain, weaker, b
 use Rattle.rules.proofs.walk.Overrun.{none-pass, frames-overrun}
 
 -- Of a refusal with 2, P holds of the line and the offset.
-abbrev pub Two : (ℕ → ℕ → Type 0) → ℕ → ℕ → ℕ → Type 0
+abbrev Two : (ℕ → ℕ → Type 0) → ℕ → ℕ → ℕ → Type 0
 Two P n l o = n ≡ 2 → P l o
 
 -- Behind a head the numbers are others.
-pub past-head : {A : Type 0} {P : ℕ → ℕ → Type 0} {ln at : ℕ} {m : Ans A} → Refusal (At 3 ln at) m → Refusal (Two P) m
+past-head : {A : Type 0} {P : ℕ → ℕ → Type 0} {ln at : ℕ} {m : Ans A} → Refusal (At 3 ln at) m → Refusal (Two P) m
 past-head h = weaker (λ n l o x e. absurd (omega arith)) h
 
 -- ---- among entries
