@@ -4,11 +4,11 @@ use mathlib.Core.Bool.{Bool, true, false, _&&_}
 use mathlib.Core.List.{List, [], _∷_}
 use Prim.Native.Nat.{ℕ, _≤_, _<_, min}
 use native.Mathlib.Omega.{arith}
-use lib.Dec.{leb, ltb, eqb}
+use lib.Dec.{leb, eqb}
 use lib.ListN.{length, getD, take}
 use lib.Seq.{take-all, length-take-le}
 use borrow.Author.Tests.{leb-true, leb-false}
-use Rattle.rules.specs.Layout.{fewestRows, mostRows, isCondition}
+use Rattle.rules.specs.Layout.{fewestRows, isCondition}
 use Rattle.rules.specs.Outcome.{Ans, refused, got, _>>=_}
 use Rattle.rules.specs.Walk as walk
 use Rattle.rules.specs.Walk.{header, closed}
@@ -22,7 +22,7 @@ use Rattle.blocks.specs.BlockAnswers.{rowRead}
 use Rattle.blocks.specs.declared.row.RowRead.{RowRead}
 use Rattle.cursor.specs.BlockParts.{headOf}
 use Rattle.cursor.specs.declared.Head.{Head}
-use Rattle.frames.specs.FrameAnswers.{longFrame}
+use Rattle.frames.specs.FrameAnswers.{rowDue, noneDue, longLine}
 use Rattle.frames.proofs.Long.{long-row, long-closed}
 use Rattle.reading.specs.Moved.{Cut, Fronts, rowless, afterRow, misplaced, movedRows, movedConditions, tallied}
 use Rattle.reading.specs.declared.State.the-variants.{Conditions, Refused}
@@ -95,7 +95,7 @@ module _ (front : List ℕ) (n : ℕ) (l : List ℕ) (F : Fronts front n l) wher
       go false p = leb-false (length l) 37 p
 
   -- So the head says the same.
-  pub long-alike : (ln : ℕ) (due : ℕ → Bool) → longFrame ln (due (getD front 0 0)) (be2 front 1) n ≡ longFrame ln (due (getD l 0 0)) (be2 l 1) (length l)
+  pub long-alike : (ln : ℕ) (due : ℕ → Bool) → longLine due ln front n ≡ longLine due ln l (length l)
   long-alike ln due = rw (F .held, take-first l, take-length l, F .long)
 
   pub tallied-alike : (y : Tally) (ln : ℕ) → tallied y ln front ≡ tallied y ln l
@@ -110,9 +110,8 @@ module _ (front : List ℕ) (n : ℕ) (l : List ℕ) (F : Fronts front n l) wher
     pub rows-begun : (isCondition l && leb fewestRows k) ≡ true → rowless (Conditions s) ≡ movedRows s p k ln l
     rows-begun q = rw q
 
-    pub rows-long : (isCondition l && leb fewestRows k) ≡ false → length front < n → (due : Bool) → due ≡ (eqb (getD front 0 0) 0xA2 && ltb k mostRows) → (r : Refusal) → r ≡ longFrame ln due (be2 front 1) n
-        → rowless (Refused r) ≡ movedRows s p k ln l
-    rows-long q h due d r e = rw q (ap (λ x. rowless (Refused x)) (e ∙ rw d (long-alike ln (λ b. eqb b 0xA2 && ltb k mostRows))) ∙ sym (ap (afterRow s) (long-row ln l k p (front-cut h))))
+    pub rows-long : (isCondition l && leb fewestRows k) ≡ false → length front < n → (r : Refusal) → r ≡ longLine (rowDue k) ln front n → rowless (Refused r) ≡ movedRows s p k ln l
+    rows-long q h r e = rw q (ap (λ x. rowless (Refused x)) (e ∙ long-alike ln (rowDue k)) ∙ sym (ap (afterRow s) (long-row ln l k p (front-cut h))))
 
     pub rows-whole : (isCondition l && leb fewestRows k) ≡ false → n ≤ length front → (r : RowRead) → r ≡ rowRead (rowAt ln k p front) → afterRow s r ≡ movedRows s p k ln l
     rows-whole q h r e = rw q (ap (afterRow s) (e ∙ ap (λ x. rowRead (rowAt ln k p x)) (front-whole h)))
@@ -125,8 +124,8 @@ module _ (front : List ℕ) (n : ℕ) (l : List ℕ) (F : Fronts front n l) wher
     pub more-begun : isCondition l ≡ true → Conditions s ≡ movedConditions s ln l
     more-begun q = rw q
 
-    pub more-long : isCondition l ≡ false → (r : Refusal) → r ≡ longFrame ln false (be2 front 1) n → Refused r ≡ movedConditions s ln l
-    more-long q r e = rw q (sym (closed-misplaced ln l r (rw (e, long-alike ln (λ b. false)) (long-closed ln l []))))
+    pub more-long : isCondition l ≡ false → (r : Refusal) → r ≡ longLine noneDue ln front n → Refused r ≡ movedConditions s ln l
+    more-long q r e = rw q (sym (closed-misplaced ln l r (rw (e, long-alike ln noneDue) (long-closed ln l []))))
 
     pub more-whole : isCondition l ≡ false → n ≤ length front → (h x : Head) → h ≡ headOf (header ln 0 front) → h ≡ x → misplaced ln x ≡ movedConditions s ln l
     more-whole q w h x e g = rw q (ap (misplaced ln) (sym g ∙ e ∙ ap (λ x. headOf (header ln 0 x)) (front-whole w)))

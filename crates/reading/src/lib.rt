@@ -171,7 +171,7 @@ fn ship_line(front: &[u8], n: usize, line: usize) -> State
     ensures { λ r. ⌜ OfLine (now (front .entry)) n (λ l. r ≡ afterShip (shipRead (shipFrame line l))) ⌝ }
 {
     if front.len() < n {
-        return State::Refused(frames::long_frame(front, n, line, front[0] == 0xA1));
+        return State::Refused(frames::long_ship(front, n, line));
     }
     after_ship(frames::ship_frame(front, line))
 }
@@ -185,8 +185,7 @@ fn row_line(ship: book::Ship, last: u64, front: &[u8], n: usize, line: usize, ro
         return rowless(State::Conditions(ship));
     }
     if front.len() < n {
-        let due = both(front[0] == 0xA2, rows < frames::MOST_ROWS);
-        return rowless(State::Refused(frames::long_frame(front, n, line, due)));
+        return rowless(State::Refused(frames::long_row(front, n, line, rows)));
     }
     after_row(ship, frames::row_frame(front, line, rows, last))
 }
@@ -200,7 +199,7 @@ fn condition_line(ship: book::Ship, front: &[u8], n: usize, line: usize) -> Stat
         return State::Conditions(ship);
     }
     if front.len() < n {
-        return State::Refused(frames::long_frame(front, n, line, false));
+        return State::Refused(frames::long_misplaced(front, n, line));
     }
     let head = cursor::begin(front, line, 0);
     let Head::Block { tag: _, len: _ } = head else {
