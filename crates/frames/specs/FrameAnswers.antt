@@ -63,6 +63,6 @@ longFrame ln due len n = cond (ltb n (3 + len)) (refusal 2 ln 0) (cond due (refu
 abbrev pub longLine : (ℕ → Bool) → ℕ → List ℕ → ℕ → Refusal
 longLine due ln head n = longFrame ln (due (getD head 0 0)) (be2 head 1) n
 
--- A condition line of more than 4,099: 2, 3, else 5.
+-- A condition line of more than any may have: 2, 3, else 5.
 abbrev pub longCondition : ℕ → ℕ → ℕ → Refusal
 longCondition ln len n = cond (ltb n (3 + len)) (refusal 2 ln 0) (cond (eqb n (3 + len)) (refusal 5 ln 0) (refusal 3 ln 0))

@@ -294,7 +294,7 @@ pub fn long_misplaced(head: &[u8], n: usize, line: usize) -> book::Refusal
     long_frame(head, n, line, false)
 }
 
-// A condition line of `n` bytes, more than 4,099, by its head alone: 2, 3, else 5.
+// A condition line of `n` bytes, more than any may have, by its head alone: 2, 3, else 5.
 pub fn long_condition(head: &[u8], n: usize, line: usize) -> book::Refusal
     requires { ⌜ 3 ≤ length (now head) ⌝ }
     ensures { λ r. ⌜ r ≡ longCondition line (be2 (now (head .entry)) 1) n ⌝ }

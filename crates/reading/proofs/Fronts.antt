@@ -1,4 +1,4 @@
--- A line of which the front is held: the front is the whole of it, or its first 37 bytes, and begins as it does.
+-- A line of which the front is held: the front is the whole of it, or as many bytes as a row has, and begins as it does.
 use mathlib.Core.Path.{_≡_, refl, ap, sym, _∙_}
 use mathlib.Core.Bool.{Bool, true, false, _&&_}
 use mathlib.Core.List.{List, [], _∷_}
@@ -22,6 +22,7 @@ use Rattle.blocks.specs.BlockAnswers.{rowRead}
 use Rattle.blocks.specs.declared.row.RowRead.{RowRead}
 use Rattle.cursor.specs.BlockParts.{headOf}
 use Rattle.cursor.specs.declared.Head.{Head}
+use Rattle.frames.specs.Sizes.{rowBytes}
 use Rattle.frames.specs.FrameAnswers.{rowDue, noneDue, longLine}
 use Rattle.frames.proofs.Long.{long-row, long-closed}
 use Rattle.reading.specs.Moved.{Cut, Fronts, rowless, afterRow, misplaced, movedRows, movedConditions, tallied}
@@ -34,24 +35,26 @@ none-begins [] e = refl
 none-begins (x ∷ s) e = absurd (omega arith)
 
 -- The first bytes of a line are those of its front.
-take-first : (l : List ℕ) → getD (take 37 l) 0 0 ≡ getD l 0 0
+take-first : (l : List ℕ) → getD (take rowBytes l) 0 0 ≡ getD l 0 0
+unfolding rowBytes
 take-first [] = refl
 take-first (a ∷ l) = refl
 
-take-length : (l : List ℕ) → be2 (take 37 l) 1 ≡ be2 l 1
+take-length : (l : List ℕ) → be2 (take rowBytes l) 1 ≡ be2 l 1
+unfolding rowBytes
 take-length [] = refl
 take-length (a ∷ []) = refl
 take-length (a ∷ b ∷ []) = refl
 take-length (a ∷ b ∷ c ∷ l) = refl
 
--- What a buffer of 37 bytes holds of a line is such a front.
-module _ (l out : List ℕ) (n held : ℕ) (long : length l ≡ n) (e : held ≡ min n 37) where
+-- What a buffer of a row's bytes holds of a line is such a front.
+module _ (l out : List ℕ) (n held : ℕ) (long : length l ≡ n) (e : held ≡ min n rowBytes) where
   pub front-held : take held out ≡ take held l → Fronts (take held out) n l
-  front-held h = record { long = long; held = h ∙ go (leb n 37) refl }
+  front-held h = record { long = long; held = h ∙ go (leb n rowBytes) refl }
     where
-      go : (b : Bool) → leb n 37 ≡ b → take held l ≡ take 37 l
-      go true p = let k = leb-true n 37 p in take-all held l (omega arith) ∙ sym (take-all 37 l (omega arith))
-      go false p = let k = leb-false n 37 p in let z : held ≡ 37 = omega arith in ap (λ m. take m l) z
+      go : (b : Bool) → leb n rowBytes ≡ b → take held l ≡ take rowBytes l
+      go true p = let k = leb-true n rowBytes p in take-all held l (omega arith) ∙ sym (take-all rowBytes l (omega arith))
+      go false p = let k = leb-false n rowBytes p in let z : held ≡ rowBytes = omega arith in ap (λ m. take m l) z
 
   pub held-cut : held ≤ length out → Cut (take held out) n
   held-cut h = λ k. let q = length-take-le held out h in omega arith
@@ -78,21 +81,21 @@ module _ (front : List ℕ) (n : ℕ) (l : List ℕ) (F : Fronts front n l) wher
 
   -- Nothing is left out ..
   pub front-whole : n ≤ length front → front ≡ l
-  front-whole h = F .held ∙ go (leb (length l) 37) refl
+  front-whole h = F .held ∙ go (leb (length l) rowBytes) refl
     where
-      go : (b : Bool) → leb (length l) 37 ≡ b → take 37 l ≡ l
-      go true p = take-all 37 l (leb-true (length l) 37 p)
+      go : (b : Bool) → leb (length l) rowBytes ≡ b → take rowBytes l ≡ l
+      go true p = take-all rowBytes l (leb-true (length l) rowBytes p)
       go false p =
-          let k = leb-false (length l) 37 p in
-          absurd (omega (arith, F .long, ap length (F .held), length-take-le 37 l (omega arith)))
+          let k = leb-false (length l) rowBytes p in
+          absurd (omega (arith, F .long, ap length (F .held), length-take-le rowBytes l (omega arith)))
 
   -- .. or more than a ship or a row has.
-  pub front-cut : length front < n → 37 < length l
-  front-cut h = go (leb (length l) 37) refl
+  pub front-cut : length front < n → rowBytes < length l
+  front-cut h = go (leb (length l) rowBytes) refl
     where
-      go : (b : Bool) → leb (length l) 37 ≡ b → 37 < length l
-      go true p = let k = ap length (take-all 37 l (leb-true (length l) 37 p)) in absurd (omega (arith, F .long, ap length (F .held)))
-      go false p = leb-false (length l) 37 p
+      go : (b : Bool) → leb (length l) rowBytes ≡ b → rowBytes < length l
+      go true p = let k = ap length (take-all rowBytes l (leb-true (length l) rowBytes p)) in absurd (omega (arith, F .long, ap length (F .held)))
+      go false p = leb-false (length l) rowBytes p
 
   -- So the head says the same.
   pub long-alike : (ln : ℕ) (due : ℕ → Bool) → longLine due ln front n ≡ longLine due ln l (length l)

@@ -4,6 +4,7 @@ use native.Mathlib.Omega.{arith}
 use borrow.Author.Needs.{needs}
 use denote.Ref.{now}
 use Rattle.cursor.specs.BlockParts.{headFault}
+use Rattle.frames.specs.Sizes.{rowBytes}
 use Rattle.reading.specs.declared.State.the-variants.{Refused}
 use Rattle.reading.proofs.Fronts.{begun, more-begun, more-long, more-whole}
 use Rattle.reading.proofs.condition_line.Statement.{statement}
@@ -18,6 +19,7 @@ returns c = λ l F.
     more-begun (now (a .front)) (a .n) l F (a .ship) (a .line) (begun (now (a .front)) (a .n) l F (a .ship) (a .line) _ _ (c .before .begins-a3 .ensures) (c .if1 .taken))
 
 long-misplaced-requires : tie.Need-long-misplaced-requires
+unfolding rowBytes
 long-misplaced-requires c κs = omega (arith, c .before .before .before .before .pre (c .if2 .taken))
 
 returns-2 : tie.Need-returns-2

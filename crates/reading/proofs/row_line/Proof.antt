@@ -2,6 +2,7 @@
 use native.Mathlib.Omega.{arith}
 use borrow.Author.Needs.{needs}
 use denote.Ref.{now}
+use Rattle.frames.specs.Sizes.{rowBytes}
 use Rattle.reading.proofs.Fronts.{in-place, rows-begun, rows-long, rows-whole}
 use Rattle.reading.proofs.row_line.Statement.{statement}
 use Rattle.reading.proofs.row_line.Tie as tie
@@ -23,6 +24,7 @@ returns c = λ l F.
     rw (c .rowless .ensures) (rows-begun (now (a .front)) (a .n) l F (a .ship) (a .last) (a .rows) (a .line) (in-place (now (a .front)) (a .n) l F (a .ship) (a .last) (a .rows) (a .line) _ _ _ (b .before .begins-a3 .ensures) (b .both .ensures) (i .if1 .taken)))
 
 long-row-requires : tie.Need-long-row-requires
+unfolding rowBytes
 long-row-requires c κs = omega (arith, c .before .before .before .before .before .pre (c .if2 .taken))
 
 rowless-requires-2 : tie.Need-rowless-requires-2

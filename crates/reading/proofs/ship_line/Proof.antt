@@ -4,6 +4,7 @@ use native.Mathlib.Omega.{arith}
 use denote.Ref.{now}
 use Rattle.rules.specs.Walk.{shipFrame}
 use Rattle.blocks.specs.BlockAnswers.{shipRead}
+use Rattle.frames.specs.Sizes.{rowBytes}
 use Rattle.frames.specs.FrameAnswers.{shipDue}
 use Rattle.frames.proofs.Long.{long-ship}
 use Rattle.reading.specs.Moved.{afterShip}
@@ -14,6 +15,7 @@ use Rattle.reading.proofs.ship_line.Statement.{statement}
 use Rattle.reading.proofs.ship_line.Tie as tie
 
 long-ship-requires : tie.Need-long-ship-requires
+unfolding rowBytes
 long-ship-requires c κs = omega (arith, c .before .before .pre (c .if1 .taken))
 
 returns : tie.Need-returns
