@@ -1,8 +1,10 @@
 -- The ways out of a row's frame and of a condition line, one fact each: what the code answers with.
-use mathlib.Core.Path.{_≡_, _∙_}
+use mathlib.Core.Path.{_≡_, refl, sym, _∙_}
+use mathlib.Core.Bool.{Bool, true, false, _&&_}
 use mathlib.Core.List.{List}
-use Prim.Native.Nat.{ℕ, _≤_, _<_}
-use borrow.Author.Tests.{lt-ltb, le-ltb, eq-eqb, ne-eqb}
+use Prim.Native.Nat.{ℕ}
+use native.Mathlib.Omega.{arith}
+use lib.Dec.{ltb, eqb}
 use Rattle.rules.specs.Blocks.{Row, row, conditionTag}
 use Rattle.rules.specs.Layout.{mostRows}
 use Rattle.rules.specs.Outcome.{Ans, refused, got}
@@ -13,6 +15,7 @@ use Rattle.book.specs.Book.{refusal}
 use Rattle.book.specs.declared.Refusal.{Refusal}
 use Rattle.blocks.specs.BlockAnswers.{rowRead}
 use Rattle.rules.proofs.walk.Outcome.{bind-got, bind-refused, test-got, test-refused}
+use Rattle.frames.specs.FrameAnswers.{rowDue}
 
 -- ---- where a row is due
 pub refused-row : (x : Refusal) (n l o : ℕ) (m : Ans Row) → x ≡ refusal n l o → m ≡ refused n l o → rowRead (refused (x .number) (x .line) (x .offset)) ≡ rowRead m
@@ -24,18 +27,24 @@ module _ (ln k p : ℕ) (s : List ℕ) where
   row-short e = bind-refused _ e
 
   module _ (t len : ℕ) (H : header ln 0 s ≡ got (headAt t len s)) where
-    pub row-tag : (t ≡ row .tag → ⊥) → rowAt ln k p s ≡ refused 4 ln 0
-    unfolding rowAt
-    row-tag n = bind-got _ H ∙ test-refused _ _ _ _ (ne-eqb t (row .tag) n)
-
-    module _ (e : t ≡ row .tag) where
-      pub row-many : mostRows ≤ k → rowAt ln k p s ≡ refused 4 ln 0
-      unfolding rowAt
-      row-many h = bind-got _ H ∙ test-got _ _ _ _ (eq-eqb t (row .tag) e) ∙ test-refused _ _ _ _ (le-ltb k mostRows h)
-
-      pub row-in : k < mostRows → rowAt ln k p s ≡ rowIn ln p (headAt (row .tag) len s)
+    module _ (a : Bool) (e : a ≡ rowDue k t) where
+      pub row-due : a ≡ true → rowAt ln k p s ≡ rowIn ln p (headAt (row .tag) len s)
       unfolding rowAt rowIn fixedIn
-      row-in h = bind-got _ H ∙ test-got _ _ _ _ (eq-eqb t (row .tag) e) ∙ test-got _ _ _ _ (lt-ltb k mostRows h)
+      row-due q = go (eqb t (row .tag)) (ltb k mostRows) refl refl (sym e ∙ q)
+        where
+          go : (x y : Bool) → eqb t (row .tag) ≡ x → ltb k mostRows ≡ y → (x && y) ≡ true → rowAt ln k p s ≡ rowIn ln p (headAt (row .tag) len s)
+          go true true f g r = bind-got _ H ∙ test-got _ _ _ _ f ∙ test-got _ _ _ _ g
+          go true false f g r = absurd (let z : _≡_ {A = ℕ} 0 1 = cc in omega arith)
+          go false y f g r = absurd (let z : _≡_ {A = ℕ} 0 1 = cc in omega arith)
+
+      pub row-other : a ≡ false → rowAt ln k p s ≡ refused 4 ln 0
+      unfolding rowAt
+      row-other q = go (eqb t (row .tag)) (ltb k mostRows) refl refl (sym e ∙ q)
+        where
+          go : (x y : Bool) → eqb t (row .tag) ≡ x → ltb k mostRows ≡ y → (x && y) ≡ false → rowAt ln k p s ≡ refused 4 ln 0
+          go true true f g r = absurd (let z : _≡_ {A = ℕ} 0 1 = cc in omega arith)
+          go true false f g r = bind-got _ H ∙ test-got _ _ _ _ f ∙ test-refused _ _ _ _ g
+          go false y f g r = bind-got _ H ∙ test-refused _ _ _ _ f
 
 -- ---- a condition line
 module _ (ln : ℕ) (s : List ℕ) where

@@ -1,6 +1,6 @@
--- A line of which only the front is held: more than 37 bytes where a ship or a row is due, more than 4,099 of a condition. Its head and its length say why it is refused.
+-- A line of which only the front is held: longer than a row where a ship or a row is due, than any condition where a condition is. Its head and its length say why it is refused.
 use mathlib.Core.Path.{_≡_, refl, ap, _∙_}
-use mathlib.Core.Bool.{Bool, true, false, cond, _&&_}
+use mathlib.Core.Bool.{Bool, true, false, cond}
 use mathlib.Core.List.{List, _∷_}
 use Prim.Native.Nat.{ℕ, _+_, _≤_, _<_}
 use native.Mathlib.Omega.{arith}
@@ -8,7 +8,6 @@ use lib.Dec.{ltb, eqb}
 use lib.ListN.{length, getD}
 use borrow.Author.Tests.{ltb-true, ltb-false, eqb-true, eqb-false, lt-ltb, le-ltb, eq-eqb, ne-eqb}
 use Rattle.rules.specs.Blocks.{Layout, size, ship, row, conditionTag}
-use Rattle.rules.specs.Layout.{mostRows}
 use Rattle.rules.specs.Outcome.{Ans, refused, got}
 use Rattle.rules.specs.Walk.{header, fixedIn, conditionIn, shipFrame, closed}
 use Rattle.rules.specs.Booklet.{rowAt, conditionAt}
@@ -21,9 +20,10 @@ use Rattle.book.specs.declared.Refusal.{Refusal}
 use Rattle.blocks.specs.BlockAnswers.{shipRead, rowRead}
 use Rattle.blocks.specs.declared.row.RowAnswer.the-variants as row-answer
 use Rattle.blocks.specs.declared.ship.ShipRead.the-variants as ship-read
-use Rattle.frames.specs.FrameAnswers.{conditionRead, longFrame, longCondition}
+use Rattle.frames.specs.Sizes.{rowBytes, conditionBytes}
+use Rattle.frames.specs.FrameAnswers.{conditionRead, shipDue, rowDue, noneDue, longFrame, longLine, longCondition}
 use Rattle.frames.specs.declared.ConditionRead.the-variants as condition
-use Rattle.frames.proofs.Exits.{row-short, row-tag, row-many, row-in, condition-short, condition-in}
+use Rattle.frames.proofs.Exits.{row-short, row-due, row-other, condition-short, condition-in}
 
 -- ---- the refusal, case by case
 module _ (ln len n : ℕ) where
@@ -47,8 +47,8 @@ module _ (ln len n : ℕ) where
   condition-followed h = rw (le-ltb n (3 + len) (omega arith), ne-eqb n (3 + len) (λ (e : n ≡ 3 + len). omega arith))
 
 -- ---- what the rules say of such a line
--- A block of fixed size, of at most 34 bytes, is never so long.
-fixedIn-long : {A : Type 0} (ln t : ℕ) (L : Layout A) (l : List ℕ) → size (L .fields) ≤ 34 → 37 < length l → 3 + be2 l 1 ≤ length l → fixedIn ln L (headAt t (be2 l 1) l) ≡ refused 3 ln 0
+-- A block of fixed size, no longer than a row, is never so long.
+fixedIn-long : {A : Type 0} (ln t : ℕ) (L : Layout A) (l : List ℕ) → 3 + size (L .fields) ≤ rowBytes → rowBytes < length l → 3 + be2 l 1 ≤ length l → fixedIn ln L (headAt t (be2 l 1) l) ≡ refused 3 ln 0
 fixedIn-long ln t L l f h p = go (eqb (length l) (3 + be2 l 1)) refl
   where
     go : (c : Bool) → eqb (length l) (3 + be2 l 1) ≡ c → fixedIn ln L (headAt t (be2 l 1) l) ≡ refused 3 ln 0
@@ -70,34 +70,31 @@ module _ (ln : ℕ) (l : List ℕ) where
       go false e = y (ltb-false (length l) (3 + be2 l 1) e)
 
   -- Where a ship is due.
-  pub long-ship : 37 < length l → shipRead (shipFrame ln l) ≡ ship-read.Refused (longFrame ln (eqb (getD l 0 0) 0xA1) (be2 l 1) (length l))
-  unfolding size
-  long-ship h = ap shipRead (by-head (shipFrame ln l) _ (ship-short ln l) (λ p. go p (eqb (getD l 0 0) 0xA1) refl))
+  pub long-ship : rowBytes < length l → shipRead (shipFrame ln l) ≡ ship-read.Refused (longLine shipDue ln l (length l))
+  unfolding rowBytes
+  long-ship h = ap shipRead (by-head (shipFrame ln l) _ (ship-short ln l) (λ p. go p (shipDue (getD l 0 0)) refl))
     where
-      go : 3 + be2 l 1 ≤ length l → (a : Bool) → eqb (getD l 0 0) 0xA1 ≡ a → Refuses (shipFrame ln l) (cond a (refusal 3 ln 0) (refusal 4 ln 0))
-      go p true e = ship-in ln l _ (be2 l 1) (inside-line p) (eqb-true (getD l 0 0) 0xA1 e) ∙ fixedIn-long ln (ship .tag) ship l (omega arith) h p
-      go p false e = ship-tag ln l _ (be2 l 1) (inside-line p) (eqb-false (getD l 0 0) 0xA1 e)
+      go : 3 + be2 l 1 ≤ length l → (a : Bool) → shipDue (getD l 0 0) ≡ a → Refuses (shipFrame ln l) (cond a (refusal 3 ln 0) (refusal 4 ln 0))
+      go p true e = ship-in ln l _ (be2 l 1) (inside-line p) (eqb-true (getD l 0 0) (ship .tag) e) ∙ fixedIn-long ln (ship .tag) ship l (omega arith) h p
+      go p false e = ship-tag ln l _ (be2 l 1) (inside-line p) (eqb-false (getD l 0 0) (ship .tag) e)
 
   -- Where a row is due, k rows being before it, the last with W = w.
-  pub long-row : (k w : ℕ) → 37 < length l
-      → rowRead (rowAt ln k w l) ≡ record { answer = row-answer.Refused (longFrame ln (eqb (getD l 0 0) 0xA2 && ltb k mostRows) (be2 l 1) (length l)); row = blankRow }
-  unfolding size
-  long-row k w h = ap rowRead (by-head (rowAt ln k w l) _ (row-short ln k w l) (λ p. go p (eqb (getD l 0 0) 0xA2) (ltb k mostRows) refl refl))
+  pub long-row : (k w : ℕ) → rowBytes < length l
+      → rowRead (rowAt ln k w l) ≡ record { answer = row-answer.Refused (longLine (rowDue k) ln l (length l)); row = blankRow }
+  unfolding rowBytes
+  long-row k w h = ap rowRead (by-head (rowAt ln k w l) _ (row-short ln k w l) (λ p. go p (rowDue k (getD l 0 0)) refl))
     where
-      go : 3 + be2 l 1 ≤ length l → (a b : Bool) → eqb (getD l 0 0) 0xA2 ≡ a → ltb k mostRows ≡ b → Refuses (rowAt ln k w l) (cond (a && b) (refusal 3 ln 0) (refusal 4 ln 0))
-      go p true true e f =
-          row-in ln k w l _ (be2 l 1) (inside-line p) (eqb-true (getD l 0 0) 0xA2 e) (ltb-true k mostRows f)
-          ∙ row-refused ln w _ (fixedIn-long ln (row .tag) row l (omega arith) h p)
-      go p true false e f = row-many ln k w l _ (be2 l 1) (inside-line p) (eqb-true (getD l 0 0) 0xA2 e) (ltb-false k mostRows f)
-      go p false b e f = row-tag ln k w l _ (be2 l 1) (inside-line p) (eqb-false (getD l 0 0) 0xA2 e)
+      go : 3 + be2 l 1 ≤ length l → (a : Bool) → rowDue k (getD l 0 0) ≡ a → Refuses (rowAt ln k w l) (cond a (refusal 3 ln 0) (refusal 4 ln 0))
+      go p true e = row-due ln k w l _ (be2 l 1) (inside-line p) _ refl e ∙ row-refused ln w _ (fixedIn-long ln (row .tag) row l (omega arith) h p)
+      go p false e = row-other ln k w l _ (be2 l 1) (inside-line p) _ refl e
 
   -- A line that is misplaced, of any length.
-  pub long-closed : (ls : List (List ℕ)) → Refuses (closed ln (l ∷ ls)) (longFrame ln false (be2 l 1) (length l))
+  pub long-closed : (ls : List (List ℕ)) → Refuses (closed ln (l ∷ ls)) (longLine noneDue ln l (length l))
   unfolding closed
   long-closed ls = by-head (closed ln (l ∷ ls)) (refusal 4 ln 0) (λ e. bind-refused _ e) (λ p. bind-got _ (inside-line p))
 
   -- A condition line.
-  pub long-condition : 4_099 < length l → conditionRead (conditionAt ln l) ≡ condition.Refused (longCondition ln (be2 l 1) (length l))
+  pub long-condition : conditionBytes < length l → conditionRead (conditionAt ln l) ≡ condition.Refused (longCondition ln (be2 l 1) (length l))
   long-condition h = ap conditionRead (by-head (conditionAt ln l) _ (condition-short ln l) (λ p. condition-in ln l _ (be2 l 1) (inside-line p) ∙ go p (eqb (length l) (3 + be2 l 1)) refl))
     where
       go : 3 + be2 l 1 ≤ length l → (a : Bool) → eqb (length l) (3 + be2 l 1) ≡ a → Refuses (conditionIn ln (headAt conditionTag (be2 l 1) l)) (cond a (refusal 5 ln 0) (refusal 3 ln 0))

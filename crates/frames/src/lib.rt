@@ -10,7 +10,7 @@ ghost use Rattle.rules.specs.Booklet.{rowAt, conditionAt};
 ghost use Rattle.rules.specs.Parts.{be2, part, headAt};
 ghost use Rattle.blocks.specs.BlockAnswers.{shipRead, rowRead};
 ghost use Rattle.frames.specs.Sums.{none, plus, Bounded};
-ghost use Rattle.frames.specs.FrameAnswers.{loadRead, loadFault, conditionRead, conditionFault, loaded, longFrame, longCondition};
+ghost use Rattle.frames.specs.FrameAnswers.{loadRead, loadFault, conditionRead, conditionFault, loaded, shipDue, rowDue, noneDue, longFrame, longLine, longCondition};
 use blocks::entries::Block;
 use blocks::refusal;
 use blocks::row::RowAnswer;
@@ -19,6 +19,7 @@ use blocks::ship::ShipRead;
 use blocks::weather::WeatherRead;
 use cursor::Head;
 use cursor::Part;
+use numbers::both;
 use numbers::u16_at;
 
 // 'At most 200 items and tanks', 'at most 4 groups deep', 'at most 4,096 bytes', '2 to 40 A2'.
@@ -28,7 +29,7 @@ const MOST_DEPTH: u64 = 4;
 
 const MOST_BYTES: usize = 4_096;
 
-pub const MOST_ROWS: usize = 40;
+const MOST_ROWS: usize = 40;
 
 pub enum LoadRead {
     Sum(book::Sums),
@@ -192,6 +193,19 @@ fn condition_in(s: &[u8], len: usize, line: usize) -> ConditionRead
 }
 
 // ---- the frames
+// Which tag is due, the ship's or a row's with so many rows before it: 4 for any other.
+fn ship_due(tag: u8) -> bool
+    ensures { λ r. ⌜ r ≡ shipDue tag ⌝ }
+{
+    tag == 0xA1
+}
+
+fn row_due(tag: u8, rows: usize) -> bool
+    ensures { λ r. ⌜ r ≡ rowDue rows tag ⌝ }
+{
+    both(tag == 0xA2, rows < MOST_ROWS)
+}
+
 // The ship's: 2, 4, 3, 6.
 pub fn ship_frame(s: &[u8], line: usize) -> ShipRead
     ensures { λ r. ⌜ r ≡ shipRead (shipFrame line (now (s .entry))) ⌝ }
@@ -200,10 +214,10 @@ pub fn ship_frame(s: &[u8], line: usize) -> ShipRead
     let Head::Block { tag, len } = head else {
         return ShipRead::Refused(head.fault());
     };
-    if tag != 0xA1 {
-        return ShipRead::Refused(refusal(4, line, 0));
+    if ship_due(tag) {
+        return blocks::ship::ship_in(s, len, line);
     }
-    blocks::ship::ship_in(s, len, line)
+    ShipRead::Refused(refusal(4, line, 0))
 }
 
 fn no_row(r: book::Refusal) -> RowRead
@@ -223,13 +237,10 @@ pub fn row_frame(s: &[u8], line: usize, rows: usize, last: u64) -> RowRead
     let Head::Block { tag, len } = head else {
         return no_row(head.fault());
     };
-    if tag != 0xA2 {
-        return no_row(refusal(4, line, 0));
+    if row_due(tag, rows) {
+        return blocks::row::row_in(s, len, line, last);
     }
-    if MOST_ROWS <= rows {
-        return no_row(refusal(4, line, 0));
-    }
-    blocks::row::row_in(s, len, line, last)
+    no_row(refusal(4, line, 0))
 }
 
 // A condition line: 2, 3, 5, and what is inside.
@@ -245,7 +256,7 @@ pub fn condition_frame(s: &[u8], line: usize) -> ConditionRead
 
 // ---- lines of which only the front is held
 // A line of `n` bytes, more than a ship or a row has, by its head alone: 2, then 4 where the tag is not due, else 3.
-pub fn long_frame(head: &[u8], n: usize, line: usize, due: bool) -> book::Refusal
+fn long_frame(head: &[u8], n: usize, line: usize, due: bool) -> book::Refusal
     requires { ⌜ 3 ≤ length (now head) ⌝ }
     ensures { λ r. ⌜ r ≡ longFrame line due (be2 (now (head .entry)) 1) n ⌝ }
 {
@@ -259,7 +270,31 @@ pub fn long_frame(head: &[u8], n: usize, line: usize, due: bool) -> book::Refusa
     }
 }
 
-// A condition line of `n` bytes, more than 4,099, by its head alone: 2, 3, else 5.
+// Where the ship is due.
+pub fn long_ship(head: &[u8], n: usize, line: usize) -> book::Refusal
+    requires { ⌜ 3 ≤ length (now head) ⌝ }
+    ensures { λ r. ⌜ r ≡ longLine shipDue line (now (head .entry)) n ⌝ }
+{
+    long_frame(head, n, line, ship_due(head[0]))
+}
+
+// Where a row is due, with so many rows before it.
+pub fn long_row(head: &[u8], n: usize, line: usize, rows: usize) -> book::Refusal
+    requires { ⌜ 3 ≤ length (now head) ⌝ }
+    ensures { λ r. ⌜ r ≡ longLine (rowDue rows) line (now (head .entry)) n ⌝ }
+{
+    long_frame(head, n, line, row_due(head[0], rows))
+}
+
+// Behind a condition line, where neither is due.
+pub fn long_misplaced(head: &[u8], n: usize, line: usize) -> book::Refusal
+    requires { ⌜ 3 ≤ length (now head) ⌝ }
+    ensures { λ r. ⌜ r ≡ longLine noneDue line (now (head .entry)) n ⌝ }
+{
+    long_frame(head, n, line, false)
+}
+
+// A condition line of `n` bytes, more than any may have, by its head alone: 2, 3, else 5.
 pub fn long_condition(head: &[u8], n: usize, line: usize) -> book::Refusal
     requires { ⌜ 3 ≤ length (now head) ⌝ }
     ensures { λ r. ⌜ r ≡ longCondition line (be2 (now (head .entry)) 1) n ⌝ }

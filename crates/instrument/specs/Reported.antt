@@ -13,6 +13,7 @@ use Rattle.rules.specs.Places.{Placed}
 use Rattle.rules.specs.Booklet.{readWhole}
 use Rattle.rules.specs.Apart.{AllowedWhole, lineNumber}
 use Rattle.rules.specs.Answer.{reportOf, answers, answer, firstNumber}
+use Rattle.frames.specs.Sizes.{conditionBytes}
 
 -- Report k, from 0: the 209 characters from 209 k on.
 abbrev pub reportIn : ℕ → List ℕ → List ℕ
@@ -43,7 +44,7 @@ pub record RefusedAt (text : List ℕ) (b : Booklet) (k : ℕ) (r : List ℕ) : 
   pub reported : r ≡ report number line offset noJudgement
   pub placed : Placed text number line offset
   pub own : number ≤ 6 → line ≡ lineNumber b k
-  pub fits : offset < 4_099
+  pub fits : offset < conditionBytes
 
 -- ---- what is left in the buffer, with the number n
 -- The text is refused for the whole, with this number from 1 to 6 and at this line: that is in the one report, and every byte beyond it is as it was.

@@ -95,7 +95,7 @@ fn judge_conditions(text: &[u8], front: Front, table: book::Table, report: &mut 
     requires { ⌜ OfBooklet (now text) front table (now report) ⌝ }
     ensures { λ r. ⌜ SentAll (now (text .entry)) front table (now (report .entry)) r (now (report .exit)) ⌝ }
 {
-    let mut bytes = [0u8; 4099];
+    let mut bytes = [0u8; reading::CONDITION_BYTES];
     let start = front.at;
     let ship = front.ship;
     let mut rest = &text[start..];

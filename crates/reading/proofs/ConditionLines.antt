@@ -17,6 +17,7 @@ use Rattle.text.specs.declared.LineRead.the-variants as line
 use Rattle.text.proofs.Decoded.{over-held, over-length}
 use Rattle.text.proofs.Ended.{line-long}
 use Rattle.text.proofs.Laws.{line-is, lines-none}
+use Rattle.frames.specs.Sizes.{conditionBytes}
 use Rattle.frames.specs.FrameAnswers.{conditionRead, longCondition}
 use Rattle.frames.specs.declared.ConditionRead.{ConditionRead}
 use Rattle.frames.specs.declared.ConditionRead.the-variants.{Refused}
@@ -45,7 +46,7 @@ module _ (ln : ℕ) (t : List ℕ) (r : LineRead) (e : r ≡ lineOf t) where
       go line.Not h = refl
       go line.End h = refl
 
-  module _ (n : ℕ) (is : r ≡ line.Line n) (bytes out : List ℕ) (f : out ≡ over (decoded t) bytes) (room : length bytes ≡ 4_099) where
+  module _ (n : ℕ) (is : r ≡ line.Line n) (bytes out : List ℕ) (f : out ≡ over (decoded t) bytes) (room : length bytes ≡ conditionBytes) where
     long : length (decoded t) ≡ n
     long = line-long t n (sym e ∙ is)
 
@@ -54,14 +55,14 @@ module _ (ln : ℕ) (t : List ℕ) (r : LineRead) (e : r ≡ lineOf t) where
     some x p k q = rw (p, q, ← e, is)
 
     -- One that is longer than any condition, by its head.
-    pub line-head : 4_099 < n → (x : Refusal) → x ≡ longCondition ln (be2 out 1) n → record { read = Refused x; taken = 2 * n + 1 } ≡ conditionLine ln t
+    pub line-head : conditionBytes < n → (x : Refusal) → x ≡ longCondition ln (be2 out 1) n → record { read = Refused x; taken = 2 * n + 1 } ≡ conditionLine ln t
     line-head h x p =
         some (Refused x)
         (ap Refused (p ∙ rw (f, head-alike (decoded t) bytes (omega (arith, long)) (omega arith), ← long)) ∙ sym (long-condition ln (decoded t) (omega (arith, long))))
         _ refl
 
     -- One of which the buffer holds the whole.
-    pub line-whole : n ≤ 4_099 → (x : ConditionRead) → x ≡ conditionRead (conditionAt ln (take n out)) → record { read = x; taken = 2 * n + 1 } ≡ conditionLine ln t
+    pub line-whole : n ≤ conditionBytes → (x : ConditionRead) → x ≡ conditionRead (conditionAt ln (take n out)) → record { read = x; taken = 2 * n + 1 } ≡ conditionLine ln t
     line-whole h x p =
         some x
         (p ∙ ap (λ l. conditionRead (conditionAt ln l)) (ap (take n) f ∙ over-held n (decoded t) bytes (omega (arith, long)) (omega arith) ∙ take-all n (decoded t) (omega (arith, long))))

@@ -1,4 +1,4 @@
--- The characters before the first condition line: a ship's line has 33 and a row's 75, so that what stands behind them is the condition lines.
+-- The characters before the first condition line: what stands behind them is the condition lines.
 use mathlib.Core.Path.{_≡_, refl, ap, sym, _∙_}
 use mathlib.Core.Bool.{true}
 use mathlib.Core.List.{List, [], _∷_, _++_}
@@ -19,7 +19,8 @@ use Rattle.rules.proofs.layout.Lines.{length-hex, lines-got}
 use Rattle.rules.proofs.walk.Heads.{length-alone}
 use Rattle.rules.proofs.booklet.Frames.{Lines-begin}
 use Rattle.rules.proofs.booklet.WholeText.{sound}
-use Rattle.reading.specs.TextAnswers.{frontCharacters}
+use Rattle.frames.specs.Sizes.{shipBytes, rowBytes}
+use Rattle.reading.specs.TextAnswers.{lineCharacters, frontCharacters}
 
 -- Behind a line of so many characters stands what stands behind it.
 behind-line : (l t : List ℕ) (n m : ℕ) → 2 * length l + 1 ≡ n → drop (n + m) (hex l ++ (LF ∷ t)) ≡ drop m t
@@ -33,20 +34,20 @@ fixed-line : {A : Type 0} (L : Layout A) (W : Lawful L) (a : A) → ok L a ≡ t
 unfolding spellBlock
 fixed-line L W a e = length-alone (L .tag) _ ∙ ap (3 +_) (length-spell L W a e)
 
-behind-rows : (vs : List Row) (cs : List (List ℕ)) (p : ℕ) → Rising p vs → drop (75 * length vs) (text (behindRows vs cs)) ≡ text cs
-unfolding behindRows text Rising size
+behind-rows : (vs : List Row) (cs : List (List ℕ)) (p : ℕ) → Rising p vs → drop (lineCharacters rowBytes * length vs) (text (behindRows vs cs)) ≡ text cs
+unfolding behindRows text Rising rowBytes
 behind-rows [] cs p R = refl
 behind-rows (v ∷ vs) cs p R =
     let l = fixed-line row row-lawful v (R .0) in
-    let k : 75 * suc (length vs) ≡ 75 + 75 * length vs = omega arith in
-    ap (λ n. drop n (text (behindRows (v ∷ vs) cs))) k ∙ behind-line (spellBlock row v) (text (behindRows vs cs)) 75 (75 * length vs) (omega arith) ∙ behind-rows vs cs (v .mass) (R .2)
+    let k : lineCharacters rowBytes * suc (length vs) ≡ lineCharacters rowBytes + lineCharacters rowBytes * length vs = omega arith in
+    ap (λ n. drop n (text (behindRows (v ∷ vs) cs))) k ∙ behind-line (spellBlock row v) (text (behindRows vs cs)) (lineCharacters rowBytes) (lineCharacters rowBytes * length vs) (omega arith) ∙ behind-rows vs cs (v .mass) (R .2)
 
 behind-front : (s : Ship) (vs : List Row) (cs : List (List ℕ)) → ok ship s ≡ true → Rising 0 vs → drop (frontCharacters (length vs)) (text (lead s vs cs)) ≡ text cs
-unfolding text size
-behind-front s vs cs e R = let l = fixed-line ship ship-lawful s e in behind-line (spellBlock ship s) (text (behindRows vs cs)) 33 (75 * length vs) (omega arith) ∙ behind-rows vs cs 0 R
+unfolding text shipBytes
+behind-front s vs cs e R = let l = fixed-line ship ship-lawful s e in behind-line (spellBlock ship s) (text (behindRows vs cs)) (lineCharacters shipBytes) (lineCharacters rowBytes * length vs) (omega arith) ∙ behind-rows vs cs 0 R
 
-front-long : (vs : List Row) (cs : List (List ℕ)) (p : ℕ) → Rising p vs → 75 * length vs ≤ length (text (behindRows vs cs))
-unfolding behindRows text Rising size
+front-long : (vs : List Row) (cs : List (List ℕ)) (p : ℕ) → Rising p vs → lineCharacters rowBytes * length vs ≤ length (text (behindRows vs cs))
+unfolding behindRows text Rising rowBytes
 front-long [] cs p R = omega arith
 front-long (v ∷ vs) cs p R =
     let l = fixed-line row row-lawful v (R .0) in
@@ -66,7 +67,7 @@ module _ (most : ℕ) (t : List ℕ) (b : Booklet) (e : readWhole most t ≡ got
       ∙ lines-got (b .conditions) (2 + length (b .rows)) (Lines-begin (b .conditions) (w .begin))
 
   pub front-within : frontCharacters (length (b .rows)) ≤ length t
-  unfolding spellBooklet text size
+  unfolding spellBooklet text shipBytes
   front-within =
       let s = sound most t b e in
       let w = s .0 in

@@ -1,14 +1,14 @@
--- A line of which the front is held: the front is the whole of it, or its first 37 bytes, and begins as it does.
+-- A line of which the front is held: the front is the whole of it, or as many bytes as a row has, and begins as it does.
 use mathlib.Core.Path.{_≡_, refl, ap, sym, _∙_}
 use mathlib.Core.Bool.{Bool, true, false, _&&_}
 use mathlib.Core.List.{List, [], _∷_}
 use Prim.Native.Nat.{ℕ, _≤_, _<_, min}
 use native.Mathlib.Omega.{arith}
-use lib.Dec.{leb, ltb, eqb}
+use lib.Dec.{leb, eqb}
 use lib.ListN.{length, getD, take}
 use lib.Seq.{take-all, length-take-le}
 use borrow.Author.Tests.{leb-true, leb-false}
-use Rattle.rules.specs.Layout.{fewestRows, mostRows, isCondition}
+use Rattle.rules.specs.Layout.{fewestRows, isCondition}
 use Rattle.rules.specs.Outcome.{Ans, refused, got, _>>=_}
 use Rattle.rules.specs.Walk as walk
 use Rattle.rules.specs.Walk.{header, closed}
@@ -22,7 +22,8 @@ use Rattle.blocks.specs.BlockAnswers.{rowRead}
 use Rattle.blocks.specs.declared.row.RowRead.{RowRead}
 use Rattle.cursor.specs.BlockParts.{headOf}
 use Rattle.cursor.specs.declared.Head.{Head}
-use Rattle.frames.specs.FrameAnswers.{longFrame}
+use Rattle.frames.specs.Sizes.{rowBytes}
+use Rattle.frames.specs.FrameAnswers.{rowDue, noneDue, longLine}
 use Rattle.frames.proofs.Long.{long-row, long-closed}
 use Rattle.reading.specs.Moved.{Cut, Fronts, rowless, afterRow, misplaced, movedRows, movedConditions, tallied}
 use Rattle.reading.specs.declared.State.the-variants.{Conditions, Refused}
@@ -34,24 +35,26 @@ none-begins [] e = refl
 none-begins (x ∷ s) e = absurd (omega arith)
 
 -- The first bytes of a line are those of its front.
-take-first : (l : List ℕ) → getD (take 37 l) 0 0 ≡ getD l 0 0
+take-first : (l : List ℕ) → getD (take rowBytes l) 0 0 ≡ getD l 0 0
+unfolding rowBytes
 take-first [] = refl
 take-first (a ∷ l) = refl
 
-take-length : (l : List ℕ) → be2 (take 37 l) 1 ≡ be2 l 1
+take-length : (l : List ℕ) → be2 (take rowBytes l) 1 ≡ be2 l 1
+unfolding rowBytes
 take-length [] = refl
 take-length (a ∷ []) = refl
 take-length (a ∷ b ∷ []) = refl
 take-length (a ∷ b ∷ c ∷ l) = refl
 
--- What a buffer of 37 bytes holds of a line is such a front.
-module _ (l out : List ℕ) (n held : ℕ) (long : length l ≡ n) (e : held ≡ min n 37) where
+-- What a buffer of a row's bytes holds of a line is such a front.
+module _ (l out : List ℕ) (n held : ℕ) (long : length l ≡ n) (e : held ≡ min n rowBytes) where
   pub front-held : take held out ≡ take held l → Fronts (take held out) n l
-  front-held h = record { long = long; held = h ∙ go (leb n 37) refl }
+  front-held h = record { long = long; held = h ∙ go (leb n rowBytes) refl }
     where
-      go : (b : Bool) → leb n 37 ≡ b → take held l ≡ take 37 l
-      go true p = let k = leb-true n 37 p in take-all held l (omega arith) ∙ sym (take-all 37 l (omega arith))
-      go false p = let k = leb-false n 37 p in let z : held ≡ 37 = omega arith in ap (λ m. take m l) z
+      go : (b : Bool) → leb n rowBytes ≡ b → take held l ≡ take rowBytes l
+      go true p = let k = leb-true n rowBytes p in take-all held l (omega arith) ∙ sym (take-all rowBytes l (omega arith))
+      go false p = let k = leb-false n rowBytes p in let z : held ≡ rowBytes = omega arith in ap (λ m. take m l) z
 
   pub held-cut : held ≤ length out → Cut (take held out) n
   held-cut h = λ k. let q = length-take-le held out h in omega arith
@@ -78,24 +81,24 @@ module _ (front : List ℕ) (n : ℕ) (l : List ℕ) (F : Fronts front n l) wher
 
   -- Nothing is left out ..
   pub front-whole : n ≤ length front → front ≡ l
-  front-whole h = F .held ∙ go (leb (length l) 37) refl
+  front-whole h = F .held ∙ go (leb (length l) rowBytes) refl
     where
-      go : (b : Bool) → leb (length l) 37 ≡ b → take 37 l ≡ l
-      go true p = take-all 37 l (leb-true (length l) 37 p)
+      go : (b : Bool) → leb (length l) rowBytes ≡ b → take rowBytes l ≡ l
+      go true p = take-all rowBytes l (leb-true (length l) rowBytes p)
       go false p =
-          let k = leb-false (length l) 37 p in
-          absurd (omega (arith, F .long, ap length (F .held), length-take-le 37 l (omega arith)))
+          let k = leb-false (length l) rowBytes p in
+          absurd (omega (arith, F .long, ap length (F .held), length-take-le rowBytes l (omega arith)))
 
   -- .. or more than a ship or a row has.
-  pub front-cut : length front < n → 37 < length l
-  front-cut h = go (leb (length l) 37) refl
+  pub front-cut : length front < n → rowBytes < length l
+  front-cut h = go (leb (length l) rowBytes) refl
     where
-      go : (b : Bool) → leb (length l) 37 ≡ b → 37 < length l
-      go true p = let k = ap length (take-all 37 l (leb-true (length l) 37 p)) in absurd (omega (arith, F .long, ap length (F .held)))
-      go false p = leb-false (length l) 37 p
+      go : (b : Bool) → leb (length l) rowBytes ≡ b → rowBytes < length l
+      go true p = let k = ap length (take-all rowBytes l (leb-true (length l) rowBytes p)) in absurd (omega (arith, F .long, ap length (F .held)))
+      go false p = leb-false (length l) rowBytes p
 
   -- So the head says the same.
-  pub long-alike : (ln : ℕ) (due : ℕ → Bool) → longFrame ln (due (getD front 0 0)) (be2 front 1) n ≡ longFrame ln (due (getD l 0 0)) (be2 l 1) (length l)
+  pub long-alike : (ln : ℕ) (due : ℕ → Bool) → longLine due ln front n ≡ longLine due ln l (length l)
   long-alike ln due = rw (F .held, take-first l, take-length l, F .long)
 
   pub tallied-alike : (y : Tally) (ln : ℕ) → tallied y ln front ≡ tallied y ln l
@@ -110,9 +113,8 @@ module _ (front : List ℕ) (n : ℕ) (l : List ℕ) (F : Fronts front n l) wher
     pub rows-begun : (isCondition l && leb fewestRows k) ≡ true → rowless (Conditions s) ≡ movedRows s p k ln l
     rows-begun q = rw q
 
-    pub rows-long : (isCondition l && leb fewestRows k) ≡ false → length front < n → (due : Bool) → due ≡ (eqb (getD front 0 0) 0xA2 && ltb k mostRows) → (r : Refusal) → r ≡ longFrame ln due (be2 front 1) n
-        → rowless (Refused r) ≡ movedRows s p k ln l
-    rows-long q h due d r e = rw q (ap (λ x. rowless (Refused x)) (e ∙ rw d (long-alike ln (λ b. eqb b 0xA2 && ltb k mostRows))) ∙ sym (ap (afterRow s) (long-row ln l k p (front-cut h))))
+    pub rows-long : (isCondition l && leb fewestRows k) ≡ false → length front < n → (r : Refusal) → r ≡ longLine (rowDue k) ln front n → rowless (Refused r) ≡ movedRows s p k ln l
+    rows-long q h r e = rw q (ap (λ x. rowless (Refused x)) (e ∙ long-alike ln (rowDue k)) ∙ sym (ap (afterRow s) (long-row ln l k p (front-cut h))))
 
     pub rows-whole : (isCondition l && leb fewestRows k) ≡ false → n ≤ length front → (r : RowRead) → r ≡ rowRead (rowAt ln k p front) → afterRow s r ≡ movedRows s p k ln l
     rows-whole q h r e = rw q (ap (afterRow s) (e ∙ ap (λ x. rowRead (rowAt ln k p x)) (front-whole h)))
@@ -125,8 +127,8 @@ module _ (front : List ℕ) (n : ℕ) (l : List ℕ) (F : Fronts front n l) wher
     pub more-begun : isCondition l ≡ true → Conditions s ≡ movedConditions s ln l
     more-begun q = rw q
 
-    pub more-long : isCondition l ≡ false → (r : Refusal) → r ≡ longFrame ln false (be2 front 1) n → Refused r ≡ movedConditions s ln l
-    more-long q r e = rw q (sym (closed-misplaced ln l r (rw (e, long-alike ln (λ b. false)) (long-closed ln l []))))
+    pub more-long : isCondition l ≡ false → (r : Refusal) → r ≡ longLine noneDue ln front n → Refused r ≡ movedConditions s ln l
+    more-long q r e = rw q (sym (closed-misplaced ln l r (rw (e, long-alike ln noneDue) (long-closed ln l []))))
 
     pub more-whole : isCondition l ≡ false → n ≤ length front → (h x : Head) → h ≡ headOf (header ln 0 front) → h ≡ x → misplaced ln x ≡ movedConditions s ln l
     more-whole q w h x e g = rw q (ap (misplaced ln) (sym g ∙ e ∙ ap (λ x. headOf (header ln 0 x)) (front-whole w)))

@@ -21,6 +21,7 @@ use Rattle.blocks.specs.declared.row.RowAnswer.the-variants as row
 use Rattle.cursor.specs.BlockParts.{headOf}
 use Rattle.cursor.specs.declared.Head.{Head}
 use Rattle.cursor.specs.declared.Head.the-variants as head
+use Rattle.frames.specs.Sizes.{rowBytes}
 use Rattle.reading.specs.TextAnswers.{refusedRead, wholeRead}
 use Rattle.reading.specs.declared.State.{State}
 use Rattle.reading.specs.declared.State.the-variants.{Awaited, Rows, Conditions, Refused}
@@ -29,14 +30,14 @@ use Rattle.reading.specs.declared.Tally.{Tally}
 use Rattle.reading.specs.declared.TextRead.{TextRead}
 
 -- ---- a line of which the front is held
--- Where that is not the whole of its n bytes, it is 37 of them: more than a ship or a row has.
+-- Where that is not the whole of its n bytes, it is as many as a row has, of which no ship has more.
 abbrev pub Cut : List ℕ → ℕ → Type 0
-Cut front n = length front < n → length front ≡ 37
+Cut front n = length front < n → length front ≡ rowBytes
 
 -- What holds of every line of n bytes that begins so.
 pub record Fronts (front : List ℕ) (n : ℕ) (l : List ℕ) : Type 0 where
   pub long : length l ≡ n
-  pub held : front ≡ take 37 l
+  pub held : front ≡ take rowBytes l
 
 abbrev pub OfLine : List ℕ → ℕ → (List ℕ → Type 0) → Type 0
 OfLine front n P = (l : List ℕ) → Fronts front n l → P l

@@ -11,6 +11,7 @@ use Rattle.book.specs.declared.Table.{Table}
 use Rattle.text.specs.Line.{decoded, lineOf}
 use Rattle.text.specs.declared.LineRead.{LineRead}
 use Rattle.text.specs.declared.LineRead.the-variants as line
+use Rattle.frames.specs.Sizes.{shipBytes, rowBytes}
 use Rattle.frames.specs.FrameAnswers.{conditionRead}
 use Rattle.frames.specs.declared.ConditionRead.the-variants as condition
 use Rattle.reading.specs.declared.Answer.{Answer}
@@ -18,9 +19,13 @@ use Rattle.reading.specs.declared.Answer.the-variants as answer
 use Rattle.reading.specs.declared.TextRead.{TextRead}
 use Rattle.reading.specs.declared.ConditionLine.{ConditionLine}
 
--- The characters before the first condition line: a ship's line has 33 of them and a row's 75, the LF among them.
+-- The characters of a line of n bytes, the LF among them.
+abbrev pub lineCharacters : ℕ → ℕ
+lineCharacters n = 2 * n + 1
+
+-- Those before the first condition line: the ship's and each row's.
 abbrev pub frontCharacters : ℕ → ℕ
-frontCharacters rows = 33 + 75 * rows
+frontCharacters rows = lineCharacters shipBytes + lineCharacters rowBytes * rows
 
 abbrev pub refusedRead : Refusal → ℕ → TextRead
 refusedRead r k = record { answer = answer.Refused r; table = tableOf []; conditions = k }
@@ -51,7 +56,7 @@ noLine ln = record { read = condition.Refused (refusal 1 ln 0); taken = 0 }
 
 -- A line of n bytes, which are these.
 abbrev pub lineRead : ℕ → List ℕ → LineRead → ConditionLine
-lineRead ln l (line.Line n) = record { read = conditionRead (conditionAt ln l); taken = 2 * n + 1 }
+lineRead ln l (line.Line n) = record { read = conditionRead (conditionAt ln l); taken = lineCharacters n }
 lineRead ln l line.Not = noLine ln
 lineRead ln l line.End = noLine ln
 

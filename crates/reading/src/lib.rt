@@ -10,6 +10,7 @@ ghost use Rattle.rules.specs.Booklet.{countedLines};
 ghost use Rattle.book.specs.Book.{tableOf};
 ghost use Rattle.blocks.specs.BlockAnswers.{shipRead};
 ghost use Rattle.text.specs.Line.{decoded, over};
+ghost use Rattle.frames.specs.Sizes.{conditionBytes};
 ghost use Rattle.reading.specs.TextAnswers.{told, refusedRead, answerFault, noLine, conditionLine};
 ghost use Rattle.reading.specs.Moved.{Cut, OfLine, rowless, afterShip, afterRow, movedRows, movedConditions, moved, oneMore, tallied, finished};
 use blocks::refusal;
@@ -27,15 +28,17 @@ const MOST_CONDITIONS: usize = 24;
 
 const FEWEST_ROWS: usize = 2;
 
-// The bytes of a row, of which no ship and no row has more; those of the longest condition that is not refused for its length.
+// The bytes of the ship's line; of a row's, of which no ship and no row has more; of the longest condition's that is not refused for its length.
+const SHIP_BYTES: usize = 16;
+
 const ROW_BYTES: usize = 37;
 
-const CONDITION_BYTES: usize = 4_099;
+pub const CONDITION_BYTES: usize = 4_099;
 
 // The characters of the ship's line and of a row's, the LF among them.
-const SHIP_LINE: usize = 33;
+const SHIP_LINE: usize = 2 * SHIP_BYTES + 1;
 
-const ROW_LINE: usize = 75;
+const ROW_LINE: usize = 2 * ROW_BYTES + 1;
 
 // What a text says before its conditions: the ship, and where the first condition line begins.
 pub struct Front {
@@ -171,7 +174,7 @@ fn ship_line(front: &[u8], n: usize, line: usize) -> State
     ensures { λ r. ⌜ OfLine (now (front .entry)) n (λ l. r ≡ afterShip (shipRead (shipFrame line l))) ⌝ }
 {
     if front.len() < n {
-        return State::Refused(frames::long_frame(front, n, line, front[0] == 0xA1));
+        return State::Refused(frames::long_ship(front, n, line));
     }
     after_ship(frames::ship_frame(front, line))
 }
@@ -185,8 +188,7 @@ fn row_line(ship: book::Ship, last: u64, front: &[u8], n: usize, line: usize, ro
         return rowless(State::Conditions(ship));
     }
     if front.len() < n {
-        let due = both(front[0] == 0xA2, rows < frames::MOST_ROWS);
-        return rowless(State::Refused(frames::long_frame(front, n, line, due)));
+        return rowless(State::Refused(frames::long_row(front, n, line, rows)));
     }
     after_row(ship, frames::row_frame(front, line, rows, last))
 }
@@ -200,7 +202,7 @@ fn condition_line(ship: book::Ship, front: &[u8], n: usize, line: usize) -> Stat
         return State::Conditions(ship);
     }
     if front.len() < n {
-        return State::Refused(frames::long_frame(front, n, line, false));
+        return State::Refused(frames::long_misplaced(front, n, line));
     }
     let head = cursor::begin(front, line, 0);
     let Head::Block { tag: _, len: _ } = head else {
@@ -284,7 +286,7 @@ pub fn read_text(text: &[u8], most: usize) -> TextRead
     if most < text.len() {
         return refused(refusal(1, 0, 0), 0);
     }
-    let mut bytes = [0u8; 37];
+    let mut bytes = [0u8; ROW_BYTES];
     let mut rest = text;
     let mut line: usize = 1;
     let mut tally = Tally {
@@ -333,7 +335,7 @@ fn no_line(line: usize) -> ConditionLine
 
 // The condition line at the front of a text, its first bytes to the front of a buffer. 'A3 over 4,096' needs no more of it than its head.
 pub fn read_condition(text: &[u8], line: usize, bytes: &mut [u8]) -> ConditionLine
-    requires { ⌜ length (now bytes) ≡ 4099 ⌝ }
+    requires { ⌜ length (now bytes) ≡ conditionBytes ⌝ }
     ensures { λ r. ⌜ (r ≡ conditionLine line (now (text .entry))) × (now (bytes .exit) ≡ over (decoded (now (text .entry))) (now (bytes .entry))) ⌝ }
 {
     let l = text::line_at(text, bytes);

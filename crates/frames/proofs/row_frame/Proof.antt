@@ -1,7 +1,6 @@
--- `row_frame` meets its contract: head, tag, rows so far, and then the row: 2, 4.
+-- `row_frame` meets its contract: head, tag and rows so far, and then the row: 2, 4.
 use mathlib.Core.Path.{_≡_, ap, sym, _∙_}
 use Prim.Native.Nat.{ℕ, _+_, _≤_}
-use native.Mathlib.Omega.{arith}
 use lib.ListN.{length}
 use borrow.Author.Needs.{needs}
 use denote.Ref.{now}
@@ -10,7 +9,7 @@ use Rattle.rules.specs.Walk.{header}
 use Rattle.rules.specs.Parts.{headAt}
 use Rattle.blocks.specs.BlockAnswers.{rowRead}
 use Rattle.cursor.proofs.Heads.{begins-fault, begins-block}
-use Rattle.frames.proofs.Exits.{refused-row, row-short, row-tag, row-many, row-in}
+use Rattle.frames.proofs.Exits.{refused-row, row-short, row-due, row-other}
 use Rattle.frames.proofs.row_frame.Statement.{statement}
 use Rattle.frames.proofs.row_frame.Tie as tie
 
@@ -44,38 +43,28 @@ returns c =
     let h = begins-fault _ _ _ _ (f .before .before .before .begin .ensures) _ _ (f .before .enum-told .given .1) (f .fault .ensures) in
     c .no-row .ensures ∙ refused-row _ _ _ _ _ (h .0) (row-short _ _ _ _ (h .1))
 
+row-due-requires : tie.Need-row-due-requires
+row-due-requires c κs = search needs
+
+row-in-requires : tie.Need-row-in-requires
+row-in-requires c κs = head (c .before .before) .0
+
+returns-2 : tie.Need-returns-2
+returns-2 c =
+    let d = c .before .before in
+    c .row-in .ensures ∙ sym (ap rowRead (row-due _ _ _ _ _ (len (d .before)) (head (d .before) .1) _ (d .row-due .ensures) (c .before .if1 .taken)))
+
 refusal-requires : tie.Need-refusal-requires
 refusal-requires c κs = search needs
 
 no-row-requires-2 : tie.Need-no-row-requires-2
 no-row-requires-2 c κs = search needs
 
-returns-2 : tie.Need-returns-2
-returns-2 c =
-    let i = c .before .before in
-    let k = i .before in
-    c .no-row2 .ensures ∙ refused-row _ _ _ _ _ (c .before .refusal .ensures) (row-tag _ _ _ _ _ (len k) (head k .1) (i .if1 .taken))
-
-refusal-requires-2 : tie.Need-refusal-requires-2
-refusal-requires-2 c κs = search needs
-
-no-row-requires-3 : tie.Need-no-row-requires-3
-no-row-requires-3 c κs = search needs
-
 returns-3 : tie.Need-returns-3
 returns-3 c =
     let i = c .before .before in
-    let k = i .before .before in
-    c .no-row3 .ensures ∙ refused-row _ _ _ _ _ (c .before .refusal2 .ensures) (row-many _ _ _ _ _ (len k) (head k .1) (i .before .if1 .left) (omega arith))
-
-row-in-requires : tie.Need-row-in-requires
-row-in-requires c κs = head (c .before .before) .0
-
-returns-4 : tie.Need-returns-4
-returns-4 c =
-    let i = c .before in
-    let k = i .before .before in
-    c .row-in .ensures ∙ sym (ap rowRead (row-in _ _ _ _ _ (len k) (head k .1) (i .before .if1 .left) (omega arith)))
+    let d = i .before in
+    c .no-row2 .ensures ∙ refused-row _ _ _ _ _ (c .before .refusal .ensures) (row-other _ _ _ _ _ (len (d .before)) (head (d .before) .1) _ (d .row-due .ensures) (i .if1 .left))
 
 pub row-frame-spec : {M : Type 1} → statement M
 row-frame-spec =
@@ -87,11 +76,9 @@ row-frame-spec =
     fault-requires
     no-row-requires
     returns
+    row-due-requires
+    row-in-requires
+    returns-2
     refusal-requires
     no-row-requires-2
-    returns-2
-    refusal-requires-2
-    no-row-requires-3
-    returns-3
-    row-in-requires
-    returns-4)
+    returns-3)

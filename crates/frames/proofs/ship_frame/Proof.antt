@@ -3,7 +3,9 @@ use mathlib.Core.Path.{_≡_, ap, sym, _∙_}
 use Prim.Native.Nat.{ℕ, _+_, _≤_}
 use lib.ListN.{length}
 use borrow.Author.Needs.{needs}
+use borrow.Author.Tests.{eqb-true, eqb-false}
 use denote.Ref.{now}
+use Rattle.rules.specs.Blocks.{ship}
 use Rattle.rules.specs.Outcome.{got}
 use Rattle.rules.specs.Walk.{header}
 use Rattle.rules.specs.Parts.{headAt}
@@ -40,21 +42,24 @@ returns c =
     let h = begins-fault _ _ _ _ (c .before .before .before .begin .ensures) _ _ (c .before .enum-told .given .1) (c .fault .ensures) in
     ap Refused (h .0) ∙ sym (ap shipRead (ship-short _ _ (h .1)))
 
-refusal-requires : tie.Need-refusal-requires
-refusal-requires c κs = search needs
+ship-due-requires : tie.Need-ship-due-requires
+ship-due-requires c κs = search needs
+
+ship-in-requires : tie.Need-ship-in-requires
+ship-in-requires c κs = head (c .before .before) .0
 
 returns-2 : tie.Need-returns-2
 returns-2 c =
-    let i = c .before in
-    rw (c .refusal .ensures) (sym (ap shipRead (ship-tag _ _ _ (len (i .before)) (head (i .before) .1) (i .if1 .taken))))
+    let d = c .before .before in
+    c .ship-in .ensures ∙ sym (ap shipRead (ship-in _ _ _ (len (d .before)) (head (d .before) .1) (eqb-true _ (ship .tag) (sym (d .ship-due .ensures) ∙ c .before .if1 .taken))))
 
-ship-in-requires : tie.Need-ship-in-requires
-ship-in-requires c κs = head (c .before) .0
+refusal-requires : tie.Need-refusal-requires
+refusal-requires c κs = search needs
 
 returns-3 : tie.Need-returns-3
 returns-3 c =
-    let i = c .before in
-    c .ship-in .ensures ∙ sym (ap shipRead (ship-in _ _ _ (len (i .before)) (head (i .before) .1) (i .if1 .left)))
+    let d = c .before .before in
+    rw (c .refusal .ensures) (sym (ap shipRead (ship-tag _ _ _ (len (d .before)) (head (d .before) .1) (eqb-false _ (ship .tag) (sym (d .ship-due .ensures) ∙ c .before .if1 .left)))))
 
 pub ship-frame-spec : {M : Type 1} → statement M
 ship-frame-spec =
@@ -65,7 +70,8 @@ ship-frame-spec =
     enum-told
     fault-requires
     returns
-    refusal-requires
-    returns-2
+    ship-due-requires
     ship-in-requires
+    returns-2
+    refusal-requires
     returns-3)

@@ -6,6 +6,7 @@ use lib.ListN.{length}
 use denote.Ref.{now}
 use Rattle.rules.specs.Layout.{Booklet}
 use Rattle.rules.proofs.layout.Parts.{length-part}
+use Rattle.frames.specs.Sizes.{conditionBytes}
 use Rattle.reading.specs.declared.Front.{Front}
 use Rattle.reading.proofs.ConditionLines.{room-kept}
 use Rattle.instrument.specs.Sent.{Opens}
@@ -14,7 +15,7 @@ use Rattle.instrument.proofs.judge_conditions.Statement.{statement}
 use Rattle.instrument.proofs.judge_conditions.Tie as tie
 
 abbrev Inv-loop : tie.InvT-loop
-Inv-loop text table report₀ bytes₀ start ship rest₀ line₀ at₀ number₀ report bytes rest line at number = (length bytes ≡ 4099) × ((b : Booklet) × (front : Front) × Opens b text front table × (front .ship ≡ ship) × Going b report₀ rest line at number report)
+Inv-loop text table report₀ bytes₀ start ship rest₀ line₀ at₀ number₀ report bytes rest line at number = (length bytes ≡ conditionBytes) × ((b : Booklet) × (front : Front) × Opens b text front table × (front .ship ≡ ship) × Going b report₀ rest line at number report)
 
 abbrev μ-loop : tie.MeasureT-loop
 μ-loop text table report₀ bytes₀ start ship rest₀ line₀ at₀ number₀ report bytes rest line at number = length rest

@@ -4,6 +4,7 @@ use native.Mathlib.Omega.{arith}
 use borrow.Author.Needs.{needs}
 use denote.Ref.{now}
 use Rattle.cursor.specs.BlockParts.{headFault}
+use Rattle.frames.specs.Sizes.{rowBytes}
 use Rattle.reading.specs.declared.State.the-variants.{Refused}
 use Rattle.reading.proofs.Fronts.{begun, more-begun, more-long, more-whole}
 use Rattle.reading.proofs.condition_line.Statement.{statement}
@@ -17,14 +18,15 @@ returns c = λ l F.
     let a = c .before .before .before .args in
     more-begun (now (a .front)) (a .n) l F (a .ship) (a .line) (begun (now (a .front)) (a .n) l F (a .ship) (a .line) _ _ (c .before .begins-a3 .ensures) (c .if1 .taken))
 
-long-frame-requires : tie.Need-long-frame-requires
-long-frame-requires c κs = omega (arith, c .before .before .before .before .pre (c .if2 .taken))
+long-misplaced-requires : tie.Need-long-misplaced-requires
+unfolding rowBytes
+long-misplaced-requires c κs = omega (arith, c .before .before .before .before .pre (c .if2 .taken))
 
 returns-2 : tie.Need-returns-2
 returns-2 c = λ l F.
     let j = c .before .before in
     let a = j .before .before .before .args in
-    more-long (now (a .front)) (a .n) l F (a .ship) (a .line) (begun (now (a .front)) (a .n) l F (a .ship) (a .line) _ _ (j .before .begins-a3 .ensures) (j .if1 .left)) _ (c .long-frame .ensures)
+    more-long (now (a .front)) (a .n) l F (a .ship) (a .line) (begun (now (a .front)) (a .n) l F (a .ship) (a .line) _ _ (j .before .begins-a3 .ensures) (j .if1 .left)) _ (c .long-misplaced .ensures)
 
 begin-requires : tie.Need-begin-requires
 begin-requires c κs = search needs
@@ -66,7 +68,7 @@ condition-line-spec =
     (tie.spec
     begins-a3-requires
     returns
-    long-frame-requires
+    long-misplaced-requires
     returns-2
     begin-requires
     enum-told

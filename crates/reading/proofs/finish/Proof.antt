@@ -1,6 +1,7 @@
 -- `finish` meets its contract: the 25th condition line, or case by case.
 use borrow.Author.Tests.{eq-eqb, ne-eqb}
 use borrow.Author.Needs.{needs}
+use Rattle.frames.specs.Sizes.{shipBytes, rowBytes}
 use Rattle.reading.proofs.finish.Statement.{statement}
 use Rattle.reading.proofs.finish.Tie as tie
 
@@ -59,6 +60,7 @@ returns-3 : tie.Need-returns-3
 returns-3 c = rw (c .refused3 .ensures, c .before .refusal3 .ensures, c .before .before .enum-told2 .given .1, eq-eqb _ 0 (c .before .before .before .before .if1 .left))
 
 returns-4 : tie.Need-returns-4
+unfolding shipBytes rowBytes
 returns-4 c = rw (c .before .before .state .given .1, eq-eqb _ 0 (c .before .before .before .before .if1 .left))
 
 returns-5 : tie.Need-returns-5

@@ -11,6 +11,7 @@ use Rattle.rules.specs.Booklet.{countedLines}
 use Rattle.text.specs.Line.{Leads, LineIs}
 use Rattle.text.proofs.Laws.{line-is}
 use Rattle.text.proofs.Decoded.{over-length}
+use Rattle.frames.specs.Sizes.{rowBytes}
 use Rattle.reading.specs.TextAnswers.{refusedRead, told}
 use Rattle.reading.specs.Moved.{Fronts, moved, tallied}
 use Rattle.reading.specs.declared.State.the-variants.{Awaited}
@@ -22,7 +23,7 @@ use Rattle.reading.proofs.read_text.Statement.{statement}
 use Rattle.reading.proofs.read_text.Tie as tie
 
 abbrev Inv-loop : tie.InvT-loop
-Inv-loop text most bytes₀ rest₀ line₀ tally₀ state₀ table₀ bytes rest line tally state table = (length bytes ≡ 37) × ((length text < 2 ^ 63) × (length rest + line ≤ length text + 1)) × (1 ≤ line) × (tally .conditions < line) × (table .count ≤ mostRows) × (told (countedLines most text) ≡ onward state table line tally rest)
+Inv-loop text most bytes₀ rest₀ line₀ tally₀ state₀ table₀ bytes rest line tally state table = (length bytes ≡ rowBytes) × ((length text < 2 ^ 63) × (length rest + line ≤ length text + 1)) × (1 ≤ line) × (tally .conditions < line) × (table .count ≤ mostRows) × (told (countedLines most text) ≡ onward state table line tally rest)
 
 abbrev μ-loop : tie.MeasureT-loop
 μ-loop text most bytes₀ rest₀ line₀ tally₀ state₀ table₀ bytes rest line tally state table = length rest
@@ -35,11 +36,12 @@ leads : (c : tie.After-known-told Inv-loop μ-loop) → let l = c .before .befor
 leads c = subst (LineIs _ _) (c .before .l .given .1) (line (c .before .before .before .before))
 
 -- The buffer is as long as it was, and what it holds of the line is its front.
-long : (c : tie.After-line-at Inv-loop μ-loop) → length (c .line-at .last .1 .0) ≡ 37
+long : (c : tie.After-line-at Inv-loop μ-loop) → length (c .line-at .last .1 .0) ≡ rowBytes
 long c = ap length (c .line-at .ensures .1) ∙ over-length _ _ ∙ c .before .before .loop .inv .0
 
 -- How the line that stands there moves the state and the tally.
 front : (c : tie.After-least Inv-loop μ-loop) → let k = c .before in Fronts (take (c .least .result) (k .before .before .before .before .line-at .last .1 .0)) (k .before .l .given .0 .0) (leads k .line)
+unfolding rowBytes
 front c = let k = c .before in front-held (leads k .line) _ _ (c .least .result) (leads k .long) (c .least .ensures) (leads k .held (c .least .result) (omega (arith, c .least .ensures)) (omega (arith, c .least .ensures, long (k .before .before .before .before))))
 
 moved-line : (c : tie.After-tallied Inv-loop μ-loop) → let m = c .before .before in let k = m .before .before .before in let i = k .before .before .before .before .before .before .loop in m .moves .result ≡ moved (i .state) (i .table .count) (i .line) (leads k .line)
@@ -70,12 +72,14 @@ blank-table-requires : tie.Need-blank-table-requires Inv-loop μ-loop
 blank-table-requires c κs = search needs
 
 loop-holds : tie.Need-loop-holds Inv-loop μ-loop
+unfolding rowBytes
 loop-holds c =
     let a = c .before .before .before .args in
     let x = now (a .text) in
     (refl, (search needs, omega arith), omega arith, omega arith, rw (c .blank-table .ensures) none-yet, read-onward (a .most) x (omega arith) ∙ ap (λ t. onward Awaited t 1 noTally x) (sym (c .blank-table .ensures)))
 
 slice-aggregate-line-at : tie.Need-slice-aggregate-line-at Inv-loop μ-loop
+unfolding rowBytes
 slice-aggregate-line-at c = search needs
 
 line-at-requires : tie.Need-line-at-requires Inv-loop μ-loop
@@ -121,6 +125,7 @@ slice-aggregate-moves : tie.Need-slice-aggregate-moves Inv-loop μ-loop
 slice-aggregate-moves c = sym (length-take-le _ _ (search needs))
 
 moves-requires : tie.Need-moves-requires Inv-loop μ-loop
+unfolding rowBytes
 moves-requires c κs = held-cut (leads (c .before .before) .line) _ _ _ (leads (c .before .before) .long) (c .before .least .ensures) (search needs)
 
 array-share-prefix-bytes-2 : tie.Need-array-share-prefix-bytes-2 Inv-loop μ-loop

@@ -2,6 +2,7 @@
 use native.Mathlib.Omega.{arith}
 use borrow.Author.Needs.{needs}
 use denote.Ref.{now}
+use Rattle.frames.specs.Sizes.{rowBytes}
 use Rattle.reading.proofs.Fronts.{in-place, rows-begun, rows-long, rows-whole}
 use Rattle.reading.proofs.row_line.Statement.{statement}
 use Rattle.reading.proofs.row_line.Tie as tie
@@ -22,14 +23,9 @@ returns c = λ l F.
     let a = b .before .before .before .args in
     rw (c .rowless .ensures) (rows-begun (now (a .front)) (a .n) l F (a .ship) (a .last) (a .rows) (a .line) (in-place (now (a .front)) (a .n) l F (a .ship) (a .last) (a .rows) (a .line) _ _ _ (b .before .begins-a3 .ensures) (b .both .ensures) (i .if1 .taken)))
 
-shared-slice-read-both : tie.Need-shared-slice-read-both
-shared-slice-read-both c = let i = c .before in omega (arith, i .before .before .before .before .before .pre (i .if2 .taken))
-
-both-requires-2 : tie.Need-both-requires-2
-both-requires-2 c κs = search needs
-
-long-frame-requires : tie.Need-long-frame-requires
-long-frame-requires c κs = let i = c .before .before in omega (arith, i .before .before .before .before .before .pre (i .if2 .taken))
+long-row-requires : tie.Need-long-row-requires
+unfolding rowBytes
+long-row-requires c κs = omega (arith, c .before .before .before .before .before .pre (c .if2 .taken))
 
 rowless-requires-2 : tie.Need-rowless-requires-2
 rowless-requires-2 c κs = search needs
@@ -37,13 +33,12 @@ rowless-requires-2 c κs = search needs
 returns-2 : tie.Need-returns-2
 returns-2 c = λ l F.
     let f = c .before in
-    let d = f .before in
-    let i = d .before .before in
+    let i = f .before in
     let j = i .before in
     let b = j .before in
     let a = b .before .before .before .args in
     rw (c .rowless2 .ensures)
-    (rows-long (now (a .front)) (a .n) l F (a .ship) (a .last) (a .rows) (a .line) (in-place (now (a .front)) (a .n) l F (a .ship) (a .last) (a .rows) (a .line) _ _ _ (b .before .begins-a3 .ensures) (b .both .ensures) (j .if1 .left)) (i .if2 .taken) _ (d .both2 .ensures) _ (f .long-frame .ensures))
+    (rows-long (now (a .front)) (a .n) l F (a .ship) (a .last) (a .rows) (a .line) (in-place (now (a .front)) (a .n) l F (a .ship) (a .last) (a .rows) (a .line) _ _ _ (b .before .begins-a3 .ensures) (b .both .ensures) (j .if1 .left)) (i .if2 .taken) _ (f .long-row .ensures))
 
 row-frame-requires : tie.Need-row-frame-requires
 row-frame-requires c κs = search needs
@@ -68,9 +63,7 @@ row-line-spec =
     both-requires
     rowless-requires
     returns
-    shared-slice-read-both
-    both-requires-2
-    long-frame-requires
+    long-row-requires
     rowless-requires-2
     returns-2
     row-frame-requires

@@ -2,9 +2,10 @@
 use mathlib.Core.Path.{ap, sym, _∙_}
 use native.Mathlib.Omega.{arith}
 use denote.Ref.{now}
-use lib.Dec.{eqb}
 use Rattle.rules.specs.Walk.{shipFrame}
 use Rattle.blocks.specs.BlockAnswers.{shipRead}
+use Rattle.frames.specs.Sizes.{rowBytes}
+use Rattle.frames.specs.FrameAnswers.{shipDue}
 use Rattle.frames.proofs.Long.{long-ship}
 use Rattle.reading.specs.Moved.{afterShip}
 use Rattle.reading.specs.declared.State.the-variants.{Refused}
@@ -13,16 +14,14 @@ use borrow.Author.Needs.{needs}
 use Rattle.reading.proofs.ship_line.Statement.{statement}
 use Rattle.reading.proofs.ship_line.Tie as tie
 
-shared-slice-read-long-frame : tie.Need-shared-slice-read-long-frame
-shared-slice-read-long-frame c = let s = c .before .before .before in omega (arith, s .pre (c .before .if1 .taken))
-
-long-frame-requires : tie.Need-long-frame-requires
-long-frame-requires c κs = let s = c .before .before .before in omega (arith, s .pre (c .before .if1 .taken))
+long-ship-requires : tie.Need-long-ship-requires
+unfolding rowBytes
+long-ship-requires c κs = omega (arith, c .before .before .pre (c .if1 .taken))
 
 returns : tie.Need-returns
 returns c = λ l F.
-    let a = c .before .before .before .before .args in
-    ap Refused (c .long-frame .ensures ∙ long-alike (now (a .front)) (a .n) l F (a .line) (λ b. eqb b 0xA1)) ∙ sym (ap afterShip (long-ship (a .line) l (front-cut (now (a .front)) (a .n) l F (c .before .before .if1 .taken))))
+    let a = c .before .before .before .args in
+    ap Refused (c .long-ship .ensures ∙ long-alike (now (a .front)) (a .n) l F (a .line) shipDue) ∙ sym (ap afterShip (long-ship (a .line) l (front-cut (now (a .front)) (a .n) l F (c .before .if1 .taken))))
 
 ship-frame-requires : tie.Need-ship-frame-requires
 ship-frame-requires c κs = search needs
@@ -39,8 +38,7 @@ pub ship-line-spec : {M : Type 1} → statement M
 ship-line-spec =
     tie.close
     (tie.spec
-    shared-slice-read-long-frame
-    long-frame-requires
+    long-ship-requires
     returns
     ship-frame-requires
     after-ship-requires
