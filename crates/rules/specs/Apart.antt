@@ -73,7 +73,7 @@ unfoldable pub OnlyLast : List (List ℕ) → Type 0
 OnlyLast [] = Unit {0}
 OnlyLast (l ∷ ls) = (getD l 0 0 ≡ conditionTag → ls ≡ []) × OnlyLast ls
 
--- Of every text that is lines; one that is none begins nothing.
+-- A text of lines is such a text where its lines are so; one that is no lines, which 1 refuses, is such a text too.
 abbrev pub LastAlone : List ℕ → Type 0
 LastAlone t = (ls : List (List ℕ)) → Lines ls → text ls ≡ t → OnlyLast ls
 
