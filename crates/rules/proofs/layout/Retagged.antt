@@ -36,7 +36,7 @@ rows-timber [] s F short = let body = weatherBody (record { set = code; sky = s 
 rows-timber (v ∷ vs) s F short = afterLine (spellBlock row v) (rows-timber vs s F short)
 
 as-long : (s : Set) (c : Condition) → length (spellCondition (conditionBy s c)) ≡ length (spellCondition c)
-unfolding spellCondition spellBlock block
+unfolding spellCondition spellBlock block spellValues
 as-long s c = refl
 
 pub frames-timber : (r : Reading) → length (spellCondition (r .condition)) < 65_536 → TimberLines (frames (readingBy code r)) (frames (readingBy timber r))
