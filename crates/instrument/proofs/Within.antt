@@ -1,5 +1,5 @@
 -- A limit of one's own: a text longer than it is refused with 1, and any other is answered as with the library's limit; and how many bytes are written.
-use mathlib.Core.Path.{_≡_, refl, ap, _∙_, sym}
+use mathlib.Core.Path.{_≡_, ap, _∙_, sym}
 use mathlib.Core.List.{List}
 use mathlib.Core.Logic.{_≢_}
 use Prim.Native.Nat.{ℕ, _+_, _*_, _≤_, _<_}
