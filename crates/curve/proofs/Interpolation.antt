@@ -30,17 +30,14 @@ lies-between a b w n v u h k = record { rise = n .rise; from = n .from; to = n .
 
 -- ---- rising rows, by number
 rising-ok : (m : ℕ) (rows : List rules.Row) (d : rules.Row) → Rising m rows → (i : ℕ) → i < length rows → rules.ok rules.row (getD rows i d) ≡ true
-unfolding Rising
-rising-ok m [] d h i l = absurd (omega arith)
-rising-ok m (r ∷ rows) d h zero l = h .0
-rising-ok m (r ∷ rows) d h (suc i) l = rising-ok (r .mass) rows d (h .2) i (omega arith)
+rising-ok m rows d h i l = row-follows m rows d h i l .1 .limits
 
 rising-next : (m : ℕ) (rows : List rules.Row) (d : rules.Row) → Rising m rows → (i : ℕ) → suc i < length rows → getD rows i d .mass < getD rows (suc i) d .mass
 unfolding Rising
 rising-next m [] d h i l = absurd (omega arith)
 rising-next m (r ∷ []) d h i l = absurd (omega arith)
-rising-next m (r ∷ s ∷ rows) d h zero l = h .2 .1
-rising-next m (r ∷ s ∷ rows) d h (suc i) l = rising-next (r .mass) (s ∷ rows) d (h .2) i (omega arith)
+rising-next m (r ∷ s ∷ rows) d h zero l = h .1 .0 .heavier
+rising-next m (r ∷ s ∷ rows) d h (suc i) l = rising-next (r .mass) (s ∷ rows) d (h .1) i (omega arith)
 
 -- ---- the table's straight line at W is that of the two rows around W
 abbrev spot : (rules.Row → ℕ) → rules.Row → Point

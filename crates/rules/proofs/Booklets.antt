@@ -1,16 +1,16 @@
 -- What is promised of a booklet, a text of up to 24 conditions, to be read without the proofs: each promise is one theorem with a sentence above it, and its proof stands elsewhere.
--- Its words are defined in specs/: Apart says which texts are allowed as a whole and which condition lines are, Booklet in which order they are checked, Answer what is sent back; Tags, Cargo and Timber what it is for a C3 to be made a C5 and a C1 a C6.
+-- Its words are defined in specs/: Apart says which texts are allowed as a whole and which condition lines are, Booklet in which order they are checked, Answer what is sent back, Mistyped what a typing slip is; Tags, Cargo and Timber what it is for a C3 to be made a C5 and a C1 a C6.
 use mathlib.Core.Path.{_≡_, sym, ap, _∙_}
 use mathlib.Core.Logic.{_↔_, _≢_, _⊎_}
 use mathlib.Core.List.{List, [], _∷_, _++_}
 use Prim.Native.Nat.{ℕ, _+_, _*_, max, _≤_, _<_}
 use native.Mathlib.Omega.{arith}
-use lib.ListN.{length, take, drop, getD, length-set}
+use lib.ListN.{length, take, drop, getD, set, length-set}
 use Rattle.rules.specs.Numbers.{Bytes}
 use Rattle.rules.specs.Text.{text, Lines}
 use Rattle.rules.specs.Blocks.{block, conditionTag, Ship, Row, code, timber, Tank}
 use Rattle.rules.specs.Layout.{Entries, Condition, Reading, spellCondition, mostCharacters, mostConditions, ConditionLimits, conditionLines, Booklet}
-use Rattle.rules.specs.Outcome.{refused, got}
+use Rattle.rules.specs.Outcome.{refused, got, Unread}
 use Rattle.rules.specs.Walk.{linesFrom, read}
 use Rattle.rules.specs.Report.{reportLength}
 use Rattle.rules.specs.Met.{lead, Met, Overruns}
@@ -19,6 +19,7 @@ use Rattle.rules.specs.Cargo.{MadeCargo, RetaggedLines, RetaggedLine}
 use Rattle.rules.specs.Timber.{TimberLines, TimberLine, conditionBy}
 use Rattle.rules.specs.Booklet.{readWhole, conditionAt}
 use Rattle.rules.specs.Apart.{linesOf, spellBooklet, WholeLimits, AllowedWhole, AllowedLine, LinesWithin, lineAt, alone, respelt, LastAlone, MetWhole, Misplaced, NoCondition, TwentyFifth, lineNumber}
+use Rattle.rules.specs.Mistyped.{FarApart, valueAt, Bent, nthRow, retypedIn, Mistyped}
 use Rattle.rules.specs.Answer.{reportOf, answered, answerAt, answers, answer, inLine, number, written, room}
 use Rattle.rules.proofs.walk.Retagged.{tanks-alike}
 use Rattle.rules.proofs.walk.Timber.{weathers-alike}
@@ -36,22 +37,24 @@ use Rattle.rules.proofs.booklet.PlaceFits.{whole-fits}
 use Rattle.rules.proofs.booklet.InsideParent.{lines-of-booklet, front-fills, line-fills}
 use Rattle.rules.proofs.booklet.LineOverrun.{two-line}
 use Rattle.rules.proofs.booklet.Misplaced.{two-misplaced, four-misplaced}
-use Rattle.rules.proofs.booklet.WhereRefused.{two-whole, four-whole, five-whole}
+use Rattle.rules.proofs.booklet.WhereRefused.{two-whole, four-whole, five-whole, ten-whole}
+use Rattle.rules.proofs.booklet.Retyped.{retyped-refused}
+use Rattle.rules.proofs.layout.Smooth.{no-slip, no-two}
 use Rattle.rules.proofs.booklet.FirstFault.{whole-fault, fault-in-line}
 use Rattle.rules.proofs.booklet.OtherTag.{answers-alike, refused-alike, read-other}
 use Rattle.rules.proofs.booklet.Retagged.{made-cargo, in-timber}
 
 -- ---- which texts are read
--- A text gets none of 1 to 6 for the whole exactly when it is allowed as a whole.
-pub allowed-whole : (most : ℕ) (t : List ℕ) → ((n l o : ℕ) → (1 ≤ n) × (n ≤ 6) → readWhole most t ≢ refused n l o) ↔ AllowedWhole most t
+-- A text gets none of 1 to 6 and 10 for the whole exactly when it is allowed as a whole.
+pub allowed-whole : (most : ℕ) (t : List ℕ) → ((n l o : ℕ) → Unread n → readWhole most t ≢ refused n l o) ↔ AllowedWhole most t
 allowed-whole most t = whole-iff-allowed most t
 
 -- What is read from a text is the booklet that spells it, within the limits of the whole.
 pub booklet-spells : (most : ℕ) (t : List ℕ) (b : Booklet) → (readWhole most t ≡ got b) ↔ (WholeLimits most b × (spellBooklet b ≡ t))
 booklet-spells most t b = (λ e. whole.sound most t b e, λ x. rw (← (x .1)) (whole.complete most b (x .0)))
 
--- The number of a refusal for the whole is one of 1 to 6.
-pub refusal-number : (most : ℕ) (t : List ℕ) (n l o : ℕ) → readWhole most t ≡ refused n l o → (1 ≤ n) × (n ≤ 6)
+-- The number of a refusal for the whole is one of 1 to 6, or 10.
+pub refusal-number : (most : ℕ) (t : List ℕ) (n l o : ℕ) → readWhole most t ≡ refused n l o → Unread n
 refusal-number most t n l o e = readWhole-refusal most t .holds n l o e
 
 -- It says one booklet only.
@@ -208,12 +211,16 @@ four-for-the-whole most t ls C ln o = four-whole most t ls C ln o
 pub five-for-the-whole : (most : ℕ) (t : List ℕ) (l o : ℕ) → (readWhole most t ≡ refused 5 l o) ↔ ((o ≡ 0) × (TwentyFifth most t l ⊎ ((ls : List (List ℕ)) × LinesWithin most t ls × NoCondition ls l)))
 five-for-the-whole most t l o = five-whole most t l o
 
+-- Such a text is refused with 10 for the whole exactly where a line is a row with a typing slip, at that line and offset 0: behind the ship and rows as they must be a row in its place, within its limits and its W above the last one's, and one of its inner values, doubled, differs from the sum of its two neighbours by more than 400.
+pub ten-for-the-whole : (most : ℕ) (t : List ℕ) (ls : List (List ℕ)) → LinesWithin most t ls → (ln o : ℕ) → (readWhole most t ≡ refused 10 ln o) ↔ ((o ≡ 0) × Mistyped ls ln)
+ten-for-the-whole most t ls C ln o = ten-whole most t ls C ln o
+
 -- A condition of a text that is read is refused with 2, in its line and at an offset, exactly where in the text with that condition alone a block is met there whose length runs past its parent, or one or two bytes where a block would begin.
 pub two-in-line : (most : ℕ) (t : List ℕ) (b : Booklet) → readWhole most t ≡ got b → (k : ℕ) → k < length (b .conditions) → (o : ℕ)
     → (answer b k ≡ refused 2 (lineNumber b k) o) ↔ ((left : List ℕ) × Met (linesOf (alone b (lineAt b k))) (2 + length (b .rows)) o left × Overruns left)
 two-in-line most t b e k h o = two-line most t b e k h o
 
--- A refusal for the whole depends on nothing behind the line that it names. Two such texts have the same lines before that one; it has one length in both, and the same bytes as far as the refusal looks: to the end of its head for 2, 4 and 3, of its frame for 6.
+-- A refusal for the whole depends on nothing behind the line that it names. Two such texts have the same lines before that one; it has one length in both, and the same bytes as far as the refusal looks: to the end of its head for 2, 4 and 3, of its frame for 6 and 10.
 -- All that stands behind, in the line and in further lines, may differ: the refusal is the same. Left out is 5, no A3: it names the text's end, and a further line would change it.
 pub first-fault : (most : ℕ) (t t′ : List ℕ) (front later later′ : List (List ℕ)) (l l′ : List ℕ) (n : ℕ) → LinesWithin most t (front ++ (l ∷ later)) → LinesWithin most t′ (front ++ (l′ ∷ later′)) → SameBefore (lookedAt l n 0) l l′ → n ≢ 5
     → readWhole most t ≡ refused n (1 + length front) 0 → readWhole most t′ ≡ refused n (1 + length front) 0
@@ -226,6 +233,21 @@ first-fault-in-line s vs ln l l′ n m o tag A h e = fault-in-line n m o l l′ 
 -- Every text that is refused for the whole with another number than 1 and 5 is lines within its limit, of which at most 24 begin with A3: so these promises leave none of them out.
 pub lines-before-blocks : (most : ℕ) (t : List ℕ) (n l o : ℕ) → readWhole most t ≡ refused n l o → n ≢ 1 → n ≢ 5 → (ls : List (List ℕ)) × LinesWithin most t ls
 lines-before-blocks most t n l o e one five = lines-of-refused most t n l o e one five
+
+-- ---- typing slips
+-- In a row that is read a value that is wrong by more than 400 against the straight line of its neighbours, doubled, cannot stand.
+pub typing-slip : (most : ℕ) (t : List ℕ) (b : Booklet) → readWhole most t ≡ got b → (k i : ℕ) → k < length (b .rows) → 1 ≤ i → i ≤ 11 → ¬ Bent (nthRow (b .rows) k .kn) i
+typing-slip most t b e = no-slip (b .rows) (whole.sound most t b e .0 .rising)
+
+-- So a row that is read and one that differs from it in a single inner value, by more than 400, are not both read, in whatever texts they stand.
+pub not-both-read : (most most′ : ℕ) (t t′ : List ℕ) (b b′ : Booklet) → readWhole most t ≡ got b → readWhole most′ t′ ≡ got b′ → (k k′ i x : ℕ) → k < length (b .rows) → k′ < length (b′ .rows) → 1 ≤ i → i ≤ 11
+    → nthRow (b′ .rows) k′ .kn ≡ set (nthRow (b .rows) k .kn) i x → ¬ FarApart (valueAt (nthRow (b .rows) k .kn) i) x
+not-both-read most most′ t t′ b b′ e e′ = no-two (b .rows) (b′ .rows) (whole.sound most t b e .0 .rising) (whole.sound most′ t′ b′ e′ .0 .rising)
+
+-- And the one typed wrong is caught: take a text that is read, one of its rows and one inner value of it; let that value be another, within its limits and more than 400 off, and all else the same. That text is refused for the whole, with 10 at that row's line.
+pub slip-caught : (most : ℕ) (t : List ℕ) (b : Booklet) → readWhole most t ≡ got b → (k i x : ℕ) → k < length (b .rows) → 1 ≤ i → i ≤ 11 → x ≤ 30_000 → FarApart (valueAt (nthRow (b .rows) k .kn) i) x
+    → readWhole most (spellBooklet (retypedIn b k i x)) ≡ refused 10 (2 + k) 0
+slip-caught most t b e = retyped-refused most t b e
 
 -- ---- where a refusal stands
 -- A refusal for the whole has offset 0 and a line up to 60,000; one of a condition line has that line, and an offset inside it, below 4,099: both fit their two bytes.

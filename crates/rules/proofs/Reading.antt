@@ -1,5 +1,5 @@
 -- What is promised of the reading of a text of one condition (`judge` rests on that of a booklet: Booklets), to be read without the proofs: each promise is one theorem with a sentence above it, and its proof stands elsewhere.
--- Its words are defined in specs/: Layout says which texts are allowed, Walk in which order they are checked, Places where blocks and refusals stand, Loading and Leaves what is summed, Tags, Cargo and Timber what it is for a C3 to be made a C5 and a C1 a C6, Met what a reading comes to.
+-- Its words are defined in specs/: Layout says which texts are allowed, Walk in which order they are checked, Places where blocks and refusals stand, Loading and Leaves what is summed, Tags, Cargo and Timber what it is for a C3 to be made a C5 and a C1 a C6, Met what a reading comes to, Mistyped typing slips.
 use mathlib.Core.Path.{_≡_, sym}
 use mathlib.Core.Logic.{_↔_, _≢_}
 use mathlib.Core.List.{List, _∷_, _++_}
@@ -9,17 +9,19 @@ use Rattle.rules.specs.Rounding.{ceil}
 use Rattle.rules.specs.Text.{LF, text, Lines}
 use Rattle.rules.specs.Blocks.{conditionTag, code, timber, Tank, TankKind, ordinary, cargo, tank}
 use Rattle.rules.specs.Layout.{Entries, Reading, frames, spellText, leaves, mostCharacters, Limits, Allowed}
-use Rattle.rules.specs.Outcome.{refused, got}
+use Rattle.rules.specs.Outcome.{refused, got, Unread}
 use Rattle.rules.specs.Walk.{linesFrom, read}
 use Rattle.rules.specs.Loading.{flat, mass, moment, freeSurfaceOf, freeSurface, displacement, correctedKG, entriesOf}
 use Rattle.rules.specs.Leaves.{sumLeaves, ungrouped, loadedWith}
 use Rattle.rules.specs.Cargo.{MadeCargo, RetaggedLines}
 use Rattle.rules.specs.Timber.{TimberLines, readingBy}
+use Rattle.rules.specs.Mistyped.{Bent, nthRow}
 use Rattle.rules.specs.Places.{LinesFill, SameBefore, lookedAt, LineAt, Placed}
 use Rattle.rules.specs.Met.{Met, Overruns, NoLF, NoLine, FirstNoLine}
 use Rattle.rules.specs.Answer.{judged, answered}
 use Rattle.rules.proofs.walk.WholeText.{sound, lines-of-reading, reading-unique}
 use Rattle.rules.proofs.walk.Refusals.{number-of-refusal, not-both, unrefused-iff-allowed}
+use Rattle.rules.proofs.layout.Smooth.{no-slip}
 use Rattle.rules.proofs.layout.InsideParent.{reading-fills}
 use Rattle.rules.proofs.loading.Sums.{leaves-flat, displacement-leaves, correctedKG-leaves, flat-ungrouped, judged-same}
 use Rattle.rules.proofs.loading.Cargo.{cargo-moment, empty-none, slack-moment, forgiven, limits-alike, sums-made-cargo}
@@ -33,8 +35,8 @@ use Rattle.rules.proofs.layout.LineAt.{line-unique}
 use Rattle.rules.proofs.answer.Placed as places
 
 -- ---- which texts are read
--- A text gets none of refusals 1 to 6 exactly when it is allowed.
-pub read-iff-allowed : (t : List ℕ) → ((n l o : ℕ) → (1 ≤ n) × (n ≤ 6) → read t ≢ refused n l o) ↔ Allowed t
+-- A text gets none of refusals 1 to 6 and 10 exactly when it is allowed.
+pub read-iff-allowed : (t : List ℕ) → ((n l o : ℕ) → Unread n → read t ≢ refused n l o) ↔ Allowed t
 read-iff-allowed t = unrefused-iff-allowed t
 
 -- An allowed text has one reading only.
@@ -45,9 +47,13 @@ one-reading t a b = reading-unique t a b
 pub reading-spells : (t : List ℕ) (r : Reading) → read t ≡ got r → Limits r × (spellText r ≡ t)
 reading-spells t r e = sound t r e
 
--- The number of a refusal by the walk is one of 1 to 6.
-pub refusal-number : (t : List ℕ) (n l o : ℕ) → read t ≡ refused n l o → (1 ≤ n) × (n ≤ 6)
+-- The number of a refusal by the walk is one of 1 to 6, or 10.
+pub refusal-number : (t : List ℕ) (n l o : ℕ) → read t ≡ refused n l o → Unread n
 refusal-number t n l o e = number-of-refusal t e
+
+-- In a row that is read a value that is wrong by more than 400 against the straight line of its neighbours, doubled, cannot stand.
+pub typing-slip : (t : List ℕ) (r : Reading) → read t ≡ got r → (k i : ℕ) → k < length (r .rows) → 1 ≤ i → i ≤ 11 → ¬ Bent (nthRow (r .rows) k .kn) i
+typing-slip t r e = no-slip (r .rows) (sound t r e .0 .rising)
 
 -- ---- where its blocks stand
 -- In a reading every block lies wholly inside its parent's body, and the blocks of a parent stand end to end and fill it:
@@ -174,8 +180,8 @@ pub lines-before-blocks : (t : List ℕ) (n l o : ℕ) → read t ≡ refused n 
 lines-before-blocks t n l o e h = lines-unless-one t n l o e h
 
 -- ---- where a refusal stands
--- Every refusal of a text has a number from 1 to 8, and its place lies within the text. For 1 it is one of the text's own lines, with offset 0, or line 0 and offset 0 where the text is over 180,000 characters.
--- For 2 to 6 it is a byte of one of the text's own lines; for 5 also line 0 and offset 0 where the text is empty. For 7 and 8 it is line 0 and offset 0.
+-- Every refusal of a text has a number from 1 to 8, or 10, and its place lies within the text. For 1 it is one of the text's own lines, with offset 0, or line 0 and offset 0 where the text is over 180,000 characters.
+-- For 2 to 6 it is a byte of one of the text's own lines; for 5 also line 0 and offset 0 where the text is empty. For 10 it is the first byte of one. For 7 and 8 it is line 0 and offset 0.
 pub place-within : (t : List ℕ) (n l o : ℕ) → answered t ≡ refused n l o → Placed t n l o
 place-within t n l o e = places.place-within t n l o e
 

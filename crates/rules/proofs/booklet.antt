@@ -22,5 +22,6 @@ pub mod Misplaced
 pub mod FirstFault
 pub mod TwentyFifth
 pub mod WhereRefused
+pub mod Retyped
 pub mod OtherTag
 pub mod Retagged

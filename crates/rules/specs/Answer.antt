@@ -25,7 +25,7 @@ judged r = do
   got (judgement (loaded r))
 
 -- ---- a text of one condition
--- The refusals in 01's order: 1 to 6, then 7, then 8.
+-- The refusals in 01's order: 1 to 6 and 10, then 7, then 8.
 unfoldable pub answered : List ℕ → Ans Judgement
 unfolding read judged _>>=_
 answered t = do

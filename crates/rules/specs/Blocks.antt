@@ -1,7 +1,7 @@
 -- Blocks: 'tag (1 byte), length (2 bytes), body of that length'. Each block of fixed size is one table of fields with their limits.
 use mathlib.Core.Bool.{Bool, true, false, _&&_, _||_}
 use mathlib.Core.List.{List, [], _∷_, _++_}
-use Prim.Native.Nat.{ℕ, _+_}
+use Prim.Native.Nat.{ℕ, _+_, _*_}
 use lib.Dec.{leb, ltb, eqb}
 use lib.ListN.{length, take, drop, getD, replicate}
 use Rattle.rules.specs.Numbers.{num, digits}
@@ -92,6 +92,20 @@ row = record {
   named = λ v. record { mass = getD v 0 0; draught = getD v 1 0; km = getD v 2 0; kn = drop 3 v };
   further = no-more;
 }
+
+-- 'Some inner KN value, doubled, differs from the sum of its two neighbours by more than 400' (request 4) is what this rules out, of a value x between a and b. It is asked beside the limits, for it has a number of its own.
+abbrev pub mostBend : ℕ
+mostBend = 400
+
+abbrev pub unbent : ℕ → ℕ → ℕ → Bool
+unbent a x b = leb (2 * x) (a + b + mostBend) && leb (a + b) (2 * x + mostBend)
+
+-- Of values side by side: the first and the last have one neighbour only.
+unfoldable pub smooth : List ℕ → Bool
+smooth [] = true
+smooth (a ∷ []) = true
+smooth (a ∷ x ∷ []) = true
+smooth (a ∷ x ∷ b ∷ s) = unbent a x b && smooth (x ∷ b ∷ s)
 
 -- ---- A3 condition: a tag of its own, and its body holds blocks
 abbrev pub conditionTag : ℕ

@@ -25,7 +25,7 @@ countedLines most t = do
   got ls
 
 -- ---- the blocks of the whole text: ship, rows and misplaced lines
--- A line where a row is due, k rows being before it, the last with W = p: 2, 4, 3, 6. 'An A3 before the second row' is 4 here, as every tag but a row's, and so is a 41st row.
+-- A line where a row is due, k rows being before it, the last with W = p: 2, 4, 3, 6, 10. 'An A3 before the second row' is 4 here, as every tag but a row's, and so is a 41st row.
 unfoldable pub rowAt : ℕ → ℕ → ℕ → List ℕ → Ans Row
 rowAt ln k p l = do
   h ← header ln 0 l

@@ -6,7 +6,7 @@ use Prim.Native.Nat.{ℕ, suc, _+_, max, _≤_, _<_}
 use lib.Dec.{eqb}
 use lib.ListN.{length, getD}
 use Rattle.rules.specs.Text.{text}
-use Rattle.rules.specs.Blocks.{block, ok, spellBlock, Ship, ship, Row, row, conditionTag, Weather, okWeather, spellWeather, Load, Values, entry, groupTag}
+use Rattle.rules.specs.Blocks.{block, ok, spellBlock, Ship, ship, Row, row, smooth, conditionTag, Weather, okWeather, spellWeather, Load, Values, entry, groupTag}
 
 -- 'One or more of C2, C3, C4', and C5, 'allowed where C3 is' (request 1), side by side: none more; an item or a tank and those after it; a group and those after it.
 pub data Entries : Type 0 where
@@ -84,10 +84,15 @@ Good end = Unit {0}
 Good (leaf k v r) = (ok (entry k) v ≡ true) × Good r
 Good (group g r) = (some g ≡ true) × Good g × Good r
 
--- 'W .. strictly rising by row', each row within its limits.
+-- What a row must be behind one with W = p: within its limits, 'W .. strictly rising by row', and smooth (request 4).
+pub record Follows (p : ℕ) (v : Row) : Type 0 where
+  pub limits : ok row v ≡ true
+  pub heavier : p < v .mass
+  pub even : smooth (v .kn) ≡ true
+
 unfoldable pub Rising : ℕ → List Row → Type 0
 Rising p [] = Unit {0}
-Rising p (v ∷ vs) = (ok row v ≡ true) × (p < v .mass) × Rising (v .mass) vs
+Rising p (v ∷ vs) = Follows p v × Rising (v .mass) vs
 
 abbrev pub fewestRows : ℕ
 fewestRows = 2

@@ -10,6 +10,7 @@ pub mod Places
 pub mod Met
 pub mod Booklet
 pub mod Apart
+pub mod Mistyped
 pub mod Loading
 pub mod Leaves
 pub mod Tags

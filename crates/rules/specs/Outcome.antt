@@ -1,6 +1,7 @@
 -- What a reading comes to: a refusal with its number, line and offset, or what was read. 'The first fault met ends the reading.'
 use mathlib.Core.Bool.{Bool, true, false}
-use Prim.Native.Nat.{ℕ}
+use Prim.Native.Nat.{ℕ, _≤_}
+use mathlib.Core.Logic.{_≢_}
 
 infixl 20 _>>=_
 infixl 20 _>>_
@@ -21,3 +22,7 @@ test false n l o = refused n l o
 unfoldable pub _>>_ : {A B : Type 0} → Ans A → Ans B → Ans B
 unfolding _>>=_
 m >> k = m >>= λ u. k
+
+-- 'Demand 3 reads 1 to 6 and 10' (request 4): the numbers of a text that is not read.
+abbrev pub Unread : ℕ → Type 0
+Unread n = (1 ≤ n) × (n ≤ 10) × (n ≢ 7) × (n ≢ 8) × (n ≢ 9)

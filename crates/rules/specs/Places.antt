@@ -51,7 +51,7 @@ pub record SameBefore (e : ℕ) (l l′ : List ℕ) : Type 0 where
   pub long : length l ≡ length l′
   pub bytes : (i : ℕ) → i < e → getD l i 0 ≡ getD l′ i 0
 
--- How far a refusal looks, of the block that it names at offset o: 2, 4 and 3 at its head, 5 and 6 to its end.
+-- How far a refusal looks, of the block that it names at offset o: 2, 4 and 3 at its head, 5, 6 and 10 to its end.
 abbrev pub lookedAt : List ℕ → ℕ → ℕ → ℕ
 lookedAt line number o = cond (leb number 4) (o + 3) (endOf line o)
 
@@ -75,5 +75,7 @@ pub data Placed (t : List ℕ) : ℕ → ℕ → ℕ → Type 0 where
   emptyText : t ≡ [] → Placed t 5 0 0
   -- 2 to 6: a byte of one of the text's own lines; both its characters stand in that line
   atByte : {n l o : ℕ} {p : List ℕ} → 2 ≤ n → n ≤ 6 → length t ≤ mostCharacters → LineAt t l p → 2 * o + 1 < length p → Placed t n l o
+  -- 10 (request 4): the front of one of the text's own lines, which has a byte
+  atRow : {l : ℕ} {p : List ℕ} → length t ≤ mostCharacters → LineAt t l p → 1 < length p → Placed t 10 l 0
   -- 7 and 8: no place
   unweighed : {n : ℕ} → 7 ≤ n → n ≤ 8 → Placed t n 0 0

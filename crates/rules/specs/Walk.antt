@@ -1,4 +1,4 @@
--- The order of checks: 'then 1 over the whole text; then blocks as they begin, first byte to last, and at each block 2, 4, 3, 5, 6'.
+-- The order of checks: 'then 1 over the whole text; then blocks as they begin, first byte to last, and at each block 2, 4, 3, 5, 6', and at a row 10, 'directly after its 6' (request 4).
 -- Each step gives what it read, or the refusal with its number, line and offset.
 use mathlib.Core.Bool.{Bool, true, false, cond, _&&_}
 use mathlib.Core.List.{List, [], _∷_}
@@ -7,7 +7,7 @@ use lib.Dec.{leb, ltb, eqb}
 use lib.ListN.{length, take, drop}
 use Rattle.rules.specs.Numbers.{num, full}
 use Rattle.rules.specs.Text.{LF}
-use Rattle.rules.specs.Blocks.{Layout, ok, values, within, size, Ship, ship, Row, row, conditionTag, Set, code, timber, Weather, weather, ordinary, cargo, Load, item, tank, Values, entry, groupTag}
+use Rattle.rules.specs.Blocks.{Layout, ok, values, within, size, Ship, ship, Row, row, smooth, conditionTag, Set, code, timber, Weather, weather, ordinary, cargo, Load, item, tank, Values, entry, groupTag}
 use Rattle.rules.specs.Layout.{Entries, end, leaf, group, leaves, Condition, Reading, fewestRows, mostRows, mostDepth, mostEntries, mostBytes, mostCharacters}
 use Rattle.rules.specs.Outcome.{Ans, refused, got, test, _>>=_, _>>_}
 
@@ -188,11 +188,12 @@ shipFrame ln l = do
   test (eqb (h .tag) (ship .tag)) 4 ln 0
   fixedIn ln ship h
 
--- A row; its W above the last row's, p.
+-- A row; its W above the last row's, p; and 10.
 unfoldable pub rowIn : ℕ → ℕ → Head → Ans Row
 rowIn ln p h = do
   v ← fixedIn ln row h
   test (ltb p (v .mass)) 6 ln 0
+  test (smooth (v .kn)) 10 ln 0
   got v
 
 -- What the tag of a frame after the ship's stands for.
@@ -261,7 +262,7 @@ readFrames (l ∷ ls) = do
 
 -- A text gives a reading or a refusal. (To unfold `read` is to unfold all of the walk; each step above unfolds alone.)
 unfoldable pub read : List ℕ → Ans Reading
-unfolding nibble unhex put split decode linesFrom header num fixed ok within values size tagOf begun blockAt leaves step walk entries chosen weatherAt loadAt inside conditionIn fixedIn shipFrame rowIn frameOf found frameAt closed after tail readFrames test _>>=_ _>>_
+unfolding nibble unhex put split decode linesFrom header num fixed ok within values size smooth tagOf begun blockAt leaves step walk entries chosen weatherAt loadAt inside conditionIn fixedIn shipFrame rowIn frameOf found frameAt closed after tail readFrames test _>>=_ _>>_
 read t = do
   test (leb (length t) mostCharacters) 1 0 0
   ls ← linesFrom 1 t

@@ -6,8 +6,8 @@ use Prim.Native.Nat.{ℕ, _+_, _*_, _≤_}
 use lib.ListN.{length}
 use native.Mathlib.Omega.{arith}
 use Rattle.rules.specs.Layout.{Reading}
-use Rattle.rules.specs.Outcome.{refused}
-use Rattle.rules.specs.Places.{LineAt, Placed, tooLong, atLine, emptyText, atByte, unweighed}
+use Rattle.rules.specs.Outcome.{refused, Unread}
+use Rattle.rules.specs.Places.{LineAt, Placed, tooLong, atLine, emptyText, atByte, atRow, unweighed}
 use Rattle.rules.specs.Answer.{judged, answered}
 use Rattle.rules.proofs.walk.Refusals.{Refusal, given, weaker, bind-refusal, test-refusal, last-refusal}
 use Rattle.rules.proofs.walk.PlaceWithin.{read-placed}
@@ -27,17 +27,27 @@ place-within t n l o e = placed .holds n l o e
     placed : Refusal (Placed t) (answered t)
     placed = rw (answered-steps t) (bind-refusal _ _ (read-placed t) (λ r er. weaker (λ n l o x. rw (x .2, x .3) (unweighed (x .0) (x .1))) (judged-refusal r)))
 
--- Read the other way: 1 has offset 0; 2 to 6 name a byte of one of the text's own lines, and both its characters stand there, or the text is empty.
+-- Read the other way: 1 has offset 0; 2 to 6 and 10 name a byte of one of the text's own lines, and both its characters stand there, or the text is empty; with 10 it is the first byte.
 pub one-at-front : {t : List ℕ} {n l o : ℕ} → Placed t n l o → n ≡ 1 → o ≡ 0
 one-at-front (tooLong h) e = refl
 one-at-front (atLine c x) e = refl
 one-at-front (emptyText z) e = refl
 one-at-front (atByte a b c x h) e = absurd (omega arith)
+one-at-front (atRow c x h) e = refl
 one-at-front (unweighed a b) e = refl
 
-pub byte-of-line : {t : List ℕ} {n l o : ℕ} → Placed t n l o → 2 ≤ n → n ≤ 6 → (t ≡ []) ⊎ ((p : List ℕ) × LineAt t l p × (2 * o + 2 ≤ length p))
+pub byte-of-line : {t : List ℕ} {n l o : ℕ} → Placed t n l o → 2 ≤ n → Unread n → (t ≡ []) ⊎ ((p : List ℕ) × LineAt t l p × (2 * o + 2 ≤ length p))
 byte-of-line (tooLong h) from to = absurd (omega arith)
 byte-of-line (atLine c x) from to = absurd (omega arith)
 byte-of-line (emptyText e) from to = inl e
 byte-of-line (atByte {p = p} a b c x h) from to = inr (p, x, omega arith)
+byte-of-line (atRow {p = p} c x h) from to = inr (p, x, omega arith)
 byte-of-line (unweighed a b) from to = absurd (omega arith)
+
+pub ten-at-front : {t : List ℕ} {n l o : ℕ} → Placed t n l o → n ≡ 10 → o ≡ 0
+ten-at-front (tooLong h) e = refl
+ten-at-front (atLine c x) e = refl
+ten-at-front (emptyText z) e = refl
+ten-at-front (atByte a b c x h) e = absurd (omega arith)
+ten-at-front (atRow c x h) e = refl
+ten-at-front (unweighed a b) e = refl

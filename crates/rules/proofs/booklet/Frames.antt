@@ -9,9 +9,9 @@ use lib.Dec.{leb}
 use borrow.Author.Tests.{ltb-true, leb-true, eqb-true, lt-ltb, le-leb}
 use Rattle.rules.specs.Numbers.{Bytes, full}
 use Rattle.rules.specs.Text.{Lines}
-use Rattle.rules.specs.Blocks.{block, spellValues, ok, spellBlock, ship, Row, row, conditionTag}
-use Rattle.rules.specs.Layout.{Rising, fewestRows, mostRows, isCondition, Booklet}
-use Rattle.rules.specs.Outcome.{got}
+use Rattle.rules.specs.Blocks.{block, spellValues, ok, spellBlock, ship, Row, row, smooth, conditionTag}
+use Rattle.rules.specs.Layout.{Follows, Rising, fewestRows, mostRows, isCondition, Booklet}
+use Rattle.rules.specs.Outcome.{refused, got}
 use Rattle.rules.specs.Walk.{rowIn, closed}
 use Rattle.rules.specs.Met.{behindRows}
 use Rattle.rules.specs.Booklet.{rowAt, onlyConditions, Behind, behindShip, bookFrames}
@@ -19,27 +19,30 @@ use Rattle.rules.specs.Apart.{BeginA3, linesOf, WholeLimits}
 use Rattle.rules.proofs.layout.Fields.{length-fits, ship-lawful, row-lawful, both-true}
 use Rattle.rules.proofs.walk.Outcome.{refused-got, bind-inv, test-inv, bind-got, test-got}
 use Rattle.rules.proofs.walk.Heads.{Bytes-fixed}
-use Rattle.rules.proofs.walk.Frames.{frame-got, fixedIn-sound, fixedIn-got, ship-sound, ship-got}
+use Rattle.rules.proofs.walk.Frames.{frame-got, rowIn-sound, rowHead, rowIn-got, rowIn-slip, ship-sound, ship-got}
 use Rattle.rules.proofs.booklet.Counted.{begins, only-a3, only-other, behind-a3, behind-row}
 
 -- ---- a row
-pub row-sound : (ln k p : ℕ) (l : List ℕ) (v : Row) → Bytes l → rowAt ln k p l ≡ got v → (spellBlock row v ≡ l) × (ok row v ≡ true) × (p < v .mass) × (k < mostRows)
-unfolding rowAt rowIn spellBlock
+pub row-sound : (ln k p : ℕ) (l : List ℕ) (v : Row) → Bytes l → rowAt ln k p l ≡ got v → (spellBlock row v ≡ l) × Follows p v × (k < mostRows)
+unfolding rowAt spellBlock
 row-sound ln k p l v B e =
     let h = bind-inv _ _ e in
     let a = test-inv _ _ _ _ _ (h .2) in
     let b = test-inv _ _ _ _ _ (a .1) in
-    let w = bind-inv _ _ (b .1) in
-    let r = test-inv _ _ _ _ _ (w .2) in
-    let f = fixedIn-sound ln row row-lawful l (h .0) (w .0) B (h .1) (w .1) in
-    let q : w .0 ≡ v = cc in
-    rw (← q) (ap (λ z. block z (spellValues (row .fields) (row .listed (w .0)))) (sym (eqb-true _ _ (a .0))) ∙ f .0, f .1, ltb-true p (w .0 .mass) (r .0), ltb-true k mostRows (b .0))
+    let f = rowIn-sound ln p l (h .0) v B (h .1) (b .1) in
+    (ap (λ z. block z (spellValues (row .fields) (row .listed v))) (sym (eqb-true _ _ (a .0))) ∙ f .0, f .1, ltb-true k mostRows (b .0))
 
-pub row-got : (ln k p : ℕ) (v : Row) → ok row v ≡ true → p < v .mass → k < mostRows → rowAt ln k p (spellBlock row v) ≡ got v
-unfolding rowAt rowIn spellBlock
-row-got ln k p v e r m =
-    bind-got _ (frame-got ln (row .tag) (spellValues (row .fields) (row .listed v)) (length-fits row row-lawful v e)) ∙ test-got _ _ _ _ refl
-    ∙ test-got _ _ _ _ (lt-ltb k mostRows m) ∙ bind-got _ (fixedIn-got ln row row-lawful v e) ∙ test-got _ _ _ _ (lt-ltb p (v .mass) r)
+-- A row's own frame, in its place, comes to its tests.
+row-begun : (ln k p : ℕ) (v : Row) → ok row v ≡ true → k < mostRows → rowAt ln k p (spellBlock row v) ≡ rowIn ln p (rowHead v)
+unfolding rowAt spellBlock
+row-begun ln k p v e m =
+    bind-got _ (frame-got ln (row .tag) (spellValues (row .fields) (row .listed v)) (length-fits row row-lawful v e)) ∙ test-got _ _ _ _ refl ∙ test-got _ _ _ _ (lt-ltb k mostRows m)
+
+pub row-got : (ln k p : ℕ) (v : Row) → Follows p v → k < mostRows → rowAt ln k p (spellBlock row v) ≡ got v
+row-got ln k p v F m = row-begun ln k p v (F .limits) m ∙ rowIn-got ln p v F
+
+pub row-slip : (ln k p : ℕ) (v : Row) → ok row v ≡ true → p < v .mass → smooth (v .kn) ≡ false → k < mostRows → rowAt ln k p (spellBlock row v) ≡ refused 10 ln 0
+row-slip ln k p v e r s m = row-begun ln k p v e m ∙ rowIn-slip ln p v e r s
 
 -- ---- behind the first A3
 only-sound : (ls : List (List ℕ)) → Lines ls → (ln : ℕ) (u : Unit {0}) → onlyConditions ln ls ≡ got u → BeginA3 ls
@@ -84,7 +87,7 @@ behind-sound (l ∷ ls) B ln k p x e = go (behind-sound ls (B .2)) (isCondition 
         let r = row-sound ln k p l (a .0) (B .1) (a .1) in
         let t = H _ _ _ (y .0) (y .1) in
         let z : _≡_ {A = Behind} (record { rows = a .0 ∷ y .0 .rows; conditions = y .0 .conditions }) x = cc in
-        rw (← z) (record { spells = ap₂ _∷_ (r .0) (t .spells); rising = (r .1, r .2, t .rising); few = omega (arith, t .few); many = omega (arith, t .many, r .3); begin = t .begin; some = t .some })
+        rw (← z) (record { spells = ap₂ _∷_ (r .0) (t .spells); rising = (r .1, t .rising); few = omega (arith, t .few); many = omega (arith, t .many, r .2); begin = t .begin; some = t .some })
 
 pub not-a3 : (k : ℕ) (v : Row) → (isCondition (spellBlock row v) && leb fewestRows k) ≡ false
 unfolding spellBlock block
@@ -96,8 +99,8 @@ unfolding behindRows Rising BeginA3
 behind-got [] [] ln k p R f m B s = absurd (omega arith)
 behind-got [] (l ∷ ls) ln k p R f m B s = behind-a3 l ls ln k p (rw (begins l (B .0), le-leb fewestRows k (omega arith))) ∙ bind-got _ (only-got ls (B .2) (ln + 1))
 behind-got (v ∷ vs) cs ln k p R f m B s =
-    behind-row (spellBlock row v) (behindRows vs cs) ln k p (not-a3 k v) ∙ bind-got _ (row-got ln k p v (R .0) (R .1) (omega arith))
-    ∙ bind-got _ (behind-got vs cs (ln + 1) (k + 1) (v .mass) (R .2) (omega arith) (omega arith) B s)
+    behind-row (spellBlock row v) (behindRows vs cs) ln k p (not-a3 k v) ∙ bind-got _ (row-got ln k p v (R .0) (omega arith))
+    ∙ bind-got _ (behind-got vs cs (ln + 1) (k + 1) (v .mass) (R .1) (omega arith) (omega arith) B s)
 
 -- ---- all lines
 -- What the lines of a text tell.
@@ -142,7 +145,7 @@ Lines-begin (l ∷ ls) B = (some l (B .0), B .1, Lines-begin ls (B .2))
 Lines-rows : (vs : List Row) (cs : List (List ℕ)) (p : ℕ) → Rising p vs → BeginA3 cs → Lines (behindRows vs cs)
 unfolding behindRows Rising Lines spellBlock block
 Lines-rows [] cs p R B = Lines-begin cs B
-Lines-rows (v ∷ vs) cs p R B = (refl, Bytes-fixed row row-lawful v (R .0), Lines-rows vs cs (v .mass) (R .2) B)
+Lines-rows (v ∷ vs) cs p R B = (refl, Bytes-fixed row row-lawful v (R .0 .limits), Lines-rows vs cs (v .mass) (R .1) B)
 
 pub Lines-booklet : (b : Booklet) → Framed b (linesOf b) → Lines (linesOf b)
 unfolding Lines spellBlock block

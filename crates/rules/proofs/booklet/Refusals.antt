@@ -1,4 +1,4 @@
--- Every refusal for the whole text has a number from 1 to 6, and one by its blocks a line of the text and offset 0; a condition's refusal has a number from 2 to 6, its own line and an offset inside it.
+-- Every refusal for the whole text has a number from 1 to 6, or 10, and one by its blocks a line of the text and offset 0; a condition's refusal has a number from 2 to 6, its own line and an offset inside it.
 use mathlib.Core.Path.{_≡_, refl, ap}
 use mathlib.Core.Logic.{_≢_}
 use mathlib.Core.Bool.{Bool, true, false, _&&_}
@@ -9,17 +9,18 @@ use lib.Dec.{leb}
 use lib.ListN.{length, length-append}
 use borrow.Author.Tests.{leb-true}
 use Rattle.rules.specs.Layout.{fewestRows, mostBytes, isCondition}
+use Rattle.rules.specs.Outcome.{Unread}
 use Rattle.rules.specs.Walk.{conditionIn}
 use Rattle.rules.specs.Booklet.{counted, countedLines, rowAt, onlyConditions, behindShip, bookFrames, readWhole, conditionAt}
 use Rattle.rules.proofs.walk.Heads.{header-splits}
-use Rattle.rules.proofs.walk.Refusals.{Refusal, given, plain, weaker, bind-refusal, test-cases, test-refusal, NumberFrom, At, Between, header-refusal, inside-refusal, row-refusal, shipFrame-refusal, closed-refusal}
+use Rattle.rules.proofs.walk.Refusals.{Refusal, given, plain, weaker, bind-refusal, test-cases, test-refusal, NumberFrom, UnreadFrom, AtRow, Between, header-refusal, inside-refusal, row-refusal, shipFrame-refusal, closed-refusal}
 use Rattle.rules.proofs.walk.BadLine.{lines-bad}
 use Rattle.rules.proofs.booklet.Counted.{countedLines-steps, only-a3, only-other, behind-a3, behind-row}
 use Rattle.rules.proofs.booklet.TwentyFifth.{counted-only}
 
--- A number from 2 to 6, from one line to another, and no offset.
+-- A number from 2 to 6, or 10, from one line to another, and no offset.
 abbrev pub Among : ℕ → ℕ → ℕ → ℕ → ℕ → Type 0
-Among a e n l o = NumberFrom 2 n × (a ≤ l) × (l ≤ e) × (o ≡ 0)
+Among a e n l o = UnreadFrom 2 n × (a ≤ l) × (l ≤ e) × (o ≡ 0)
 
 -- Of lines of which the first has the number ln; with none left it may be the line before.
 abbrev pub InLines : List (List ℕ) → ℕ → ℕ → ℕ → ℕ → Type 0
@@ -46,7 +47,7 @@ countedLines-refusal most t =
     bind-refusal _ _ (weaker (λ n l o x. (omega arith, λ h. x .0)) (counted-refusal ls 1 _)) (λ u eu. given))))
 
 -- ---- the blocks
-pub rowAt-refusal : (ln k p : ℕ) (l : List ℕ) → Refusal (At 2 ln 0) (rowAt ln k p l)
+pub rowAt-refusal : (ln k p : ℕ) (l : List ℕ) → Refusal (AtRow 2 ln) (rowAt ln k p l)
 unfolding rowAt
 rowAt-refusal ln k p l =
     bind-refusal _ _ (weaker (λ n l o x. omega arith) (header-refusal ln 0 l)) (λ h eh. test-refusal _ _ _ _ _ (omega arith) (test-refusal _ _ _ _ _ (omega arith) (weaker (λ n l o x. omega arith) (row-refusal ln p h))))
@@ -76,9 +77,9 @@ bookFrames-refusal [] = plain (omega arith)
 bookFrames-refusal (l ∷ ls) =
     bind-refusal _ _ (weaker (λ n l o x. omega arith) (shipFrame-refusal 1 l)) (λ v ev. bind-refusal _ _ (weaker (λ n l o x. omega arith) (behind-refusal ls 2 0 0)) (λ x ex. given))
 
-pub readWhole-refusal : (most : ℕ) (t : List ℕ) → Refusal (λ n l o. NumberFrom 1 n) (readWhole most t)
+pub readWhole-refusal : (most : ℕ) (t : List ℕ) → Refusal (λ n l o. Unread n) (readWhole most t)
 unfolding readWhole
-readWhole-refusal most t = bind-refusal _ _ (weaker (λ n l o x. x .0) (countedLines-refusal most t)) (λ ls els. weaker (λ n l o x. omega arith) (bookFrames-refusal ls))
+readWhole-refusal most t = bind-refusal _ _ (weaker (λ n l o x. omega (arith, x .0)) (countedLines-refusal most t)) (λ ls els. weaker (λ n l o x. omega arith) (bookFrames-refusal ls))
 
 -- ---- a condition line
 -- Its refusal stands in it, and before the end of the longest condition.

@@ -70,7 +70,7 @@ module _ (most : ℕ) (t buffer : List ℕ) where
         go (got ls) e = let g = room-got ls e in past-all most t buffer (g .0) ls e (g .1) ∙ sym (bind-got bookFrames e)
 
     pub whole-refused : {n l o : ℕ} → readWhole most t ≡ refused n l o → Gives most t buffer n reportLength (reportOf (refused n l o) ++ drop reportLength buffer)
-    whole-refused e = gives-refusal most t buffer (readWhole-refusal most t .holds _ _ _ e .1) (with-room ∙ e)
+    whole-refused e = gives-refusal most t buffer (readWhole-refusal most t .holds _ _ _ e .4) (with-room ∙ e)
 
     pub whole-got : (b : Booklet) → readWhole most t ≡ got b
         → Gives most t buffer (firstNumber (answers b)) (reportLength * length (b .conditions)) (concat (map reportOf (answers b)) ++ drop (reportLength * length (b .conditions)) buffer)

@@ -1,5 +1,6 @@
 -- What is sent back, step by step: the number, how many bytes are written, and the buffer, by what is taken of the text.
 use mathlib.Core.Path.{_≡_, refl, ap, _∙_}
+use mathlib.Core.Logic.{_≢_}
 use mathlib.Core.List.{List, [], _∷_, _++_, map, append-nil}
 use Prim.Native.Nat.{ℕ, suc, _+_, _*_, _≤_, _<_}
 use native.Mathlib.Omega.{arith}
@@ -58,7 +59,7 @@ module _ (most : ℕ) (t buffer : List ℕ) where
   unfolding sent concat
   gives-nine e = record { numbered = number-taken ∙ ap numberFor e; long = bytes-taken ∙ ap (λ a. reportLength * length (sent a)) e; holds = written-taken ∙ ap (λ a. over (sent a) buffer) e }
 
-  pub gives-refusal : {n l o : ℕ} → n ≤ 6 → taken most (length buffer) t ≡ refused n l o → Gives most t buffer n reportLength (reportOf (refused n l o) ++ drop reportLength buffer)
+  pub gives-refusal : {n l o : ℕ} → n ≢ 9 → taken most (length buffer) t ≡ refused n l o → Gives most t buffer n reportLength (reportOf (refused n l o) ++ drop reportLength buffer)
   gives-refusal {n} {l} {o} h e = record {
     numbered = number-taken ∙ ap numberFor e;
     long = bytes-taken ∙ ap (λ a. reportLength * length a) single;
@@ -100,7 +101,7 @@ module _ (most : ℕ) (t buffer : List ℕ) where
 
     -- 1, and the 25th condition line.
     pub uncounted : {n l o : ℕ} → countedLines most t ≡ refused n l o → Gives most t buffer n reportLength (reportOf (refused n l o) ++ drop reportLength buffer)
-    uncounted e = gives-refusal (countedLines-refusal most t .holds _ _ _ e .0 .1) (past-one ∙ bind-refused _ e)
+    uncounted e = gives-refusal (let x = countedLines-refusal most t .holds _ _ _ e .0 in omega arith) (past-one ∙ bind-refused _ e)
 
     module _ (ls : List (List ℕ)) (e : countedLines most t ≡ got ls) where
       -- 9: 'again for under 209 bytes per condition line'.

@@ -1,4 +1,4 @@
--- Where a text is refused for the whole: with 2 at a line whose frame runs past it, with 4 at a misplaced line, with 5 at the 25th condition line or where none comes; and with these numbers for nothing else.
+-- Where a text is refused for the whole: with 2 at a line whose frame runs past it, with 4 at a misplaced line, with 5 at the 25th condition line or where none comes, with 10 at a row with a typing slip; and with these numbers for nothing else.
 use mathlib.Core.Path.{_≡_, refl, ap, sym, _∙_}
 use mathlib.Core.Logic.{_↔_, _⊎_, inl, inr}
 use mathlib.Core.Bool.{Bool, true, false, true≢false, _&&_}
@@ -7,27 +7,30 @@ use Prim.Native.Nat.{ℕ, _+_, _≤_, _<_}
 use native.Mathlib.Omega.{arith}
 use lib.Dec.{leb}
 use lib.ListN.{length, getD, length-append}
-use borrow.Author.Tests.{leb-true, leb-false, ltb-false, eqb-true, eqb-false}
+use borrow.Author.Tests.{leb-true, leb-false, ltb-true, ltb-false, eqb-true, eqb-false}
 use Rattle.rules.specs.Numbers.{Bytes}
 use Rattle.rules.specs.Text.{Lines}
-use Rattle.rules.specs.Blocks.{Layout, ok, spellBlock, Ship, ship, Row, row, conditionTag}
+use Rattle.rules.specs.Blocks.{block, spellValues, Layout, ok, spellBlock, Ship, ship, Row, row, smooth, conditionTag}
 use Rattle.rules.specs.Layout.{Rising, fewestRows, mostRows, isCondition}
 use Rattle.rules.specs.Outcome.{Ans, refused, got}
 use Rattle.rules.specs.Walk.{Head, header, fixed, fixedIn, rowIn, shipFrame, closed}
 use Rattle.rules.specs.Met.{Led, behindRows, lead, Overruns}
+use Rattle.rules.specs.Loading.{lastMass}
+use Rattle.rules.specs.Mistyped.{Mistyped, mistyped}
 use Rattle.rules.specs.Booklet.{countedLines, rowAt, onlyConditions, behindShip, bookFrames, readWhole}
 use Rattle.rules.specs.Apart.{BeginA3, LinesWithin, MetWhole, firstLine, dueRow, Misplaced, noShip, noRow, noCondition, NoCondition, emptyText, frontAlone, TwentyFifth}
-use Rattle.rules.proofs.layout.Fields.{both-true}
+use Rattle.rules.proofs.layout.Fields.{row-lawful, both-true}
 use Rattle.rules.proofs.layout.Parts.{full-length, header-overrun}
-use Rattle.rules.proofs.walk.Outcome.{refused-got, bind-first}
+use Rattle.rules.proofs.layout.Smooth.{kn-long, bent-at, bent-not-smooth}
+use Rattle.rules.proofs.walk.Outcome.{refused-got, bind-first, bind-refused}
 use Rattle.rules.proofs.walk.Heads.{header-tag}
-use Rattle.rules.proofs.walk.Frames.{ship-sound}
+use Rattle.rules.proofs.walk.Frames.{fixedIn-sound, ship-sound}
 use Rattle.rules.proofs.walk.Refusals.{Refusal, given, plain, weaker, bind-refusal, test-refusal, test-cases, header-refusal}
 use Rattle.rules.proofs.walk.OnlyOverrun.{rows-snoc}
 use Rattle.rules.proofs.booklet.Counted.{begins, only-a3, only-other, behind-a3, behind-row}
-use Rattle.rules.proofs.booklet.Frames.{row-sound}
+use Rattle.rules.proofs.booklet.Frames.{row-sound, row-slip, not-a3}
 use Rattle.rules.proofs.booklet.WholeText.{countedLines-sound, read-blocks}
-use Rattle.rules.proofs.booklet.Overrun.{led-behind, frames-overrun}
+use Rattle.rules.proofs.booklet.Overrun.{led-last, led-behind, frames-overrun}
 use Rattle.rules.proofs.booklet.Misplaced.{met, four-misplaced}
 use Rattle.rules.proofs.booklet.TwentyFifth.{twenty-fifth, only-twenty-fifth}
 
@@ -38,6 +41,7 @@ data Stands (ls : List (List ℕ)) : ℕ → ℕ → ℕ → Type 0 where
   misplaced : (ln : ℕ) (l : List ℕ) → Misplaced ls ln l → ¬ Overruns l → Stands ls 4 ln 0
   noneComes : (ln : ℕ) → NoCondition ls ln → Stands ls 5 ln 0
   outside : (ln : ℕ) → Stands ls 6 ln 0
+  slip : (ln : ℕ) → Mistyped ls ln → Stands ls 10 ln 0
 
 -- ---- one line
 -- Its head; a frame of fixed size behind it; and what has a head and is misplaced.
@@ -79,29 +83,41 @@ module _ (s : Ship) (vs : List Row) (L : Led s vs) where
   early : (l : List ℕ) → (isCondition l && leb fewestRows (length vs)) ≡ false → getD l 0 0 ≡ conditionTag → length vs < fewestRows
   early l q t = leb-false fewestRows (length vs) (rw (begins l t) at q)
 
-  row-stands : (l : List ℕ) (later : List (List ℕ)) (p : ℕ) → 0 < length l → (isCondition l && leb fewestRows (length vs)) ≡ false → Refusal (Stands (lead s vs (l ∷ later))) (rowAt (2 + length vs) (length vs) p l)
-  unfolding rowAt rowIn
-  row-stands l later p z q =
+  mistyped-is : (l : List ℕ) (later : List (List ℕ)) (p : ℕ) (v : Row) → p ≡ lastMass vs → length vs < mostRows → spellBlock row v ≡ l → ok row v ≡ true → p < v .mass → smooth (v .kn) ≡ false → Mistyped (lead s vs (l ∷ later)) (2 + length vs)
+  mistyped-is l later p v q m e o r b = let x = bent-at (v .kn) b in rw (← e) (mistyped s vs v later L m o (omega arith) (x .0) (x .1) (omega (arith, x .2, kn-long v o)) (x .3))
+
+  row-stands : (l : List ℕ) (later : List (List ℕ)) (p : ℕ) → Bytes l → 0 < length l → p ≡ lastMass vs → (isCondition l && leb fewestRows (length vs)) ≡ false → Refusal (Stands (lead s vs (l ∷ later))) (rowAt (2 + length vs) (length vs) p l)
+  unfolding rowAt rowIn spellBlock
+  row-stands l later p B z w q =
       bind-refusal _ _ (head-stands (2 + length vs) l z (dueRow s vs l later L (λ f t. omega (arith, early l q t)))) (λ h eh.
       test-cases _ _ _ _ _ (λ c. begun-misplaced (2 + length vs) l h eh (noRow s vs l later L (λ t. absurd (eqb-false _ _ c (sym (header-tag (2 + length vs) 0 l h eh) ∙ t))) (early l q))) (λ c.
       test-cases _ _ _ _ _ (λ d. begun-misplaced (2 + length vs) l h eh (noRow s vs l later L (λ t. omega (arith, L .many, ltb-false (length vs) mostRows d)) (early l q))) (λ d.
-      bind-refusal _ _ (fixed-stands (2 + length vs) row h) (λ v ev. test-refusal _ _ _ _ _ (outside (2 + length vs)) given))))
+      bind-refusal _ _ (fixed-stands (2 + length vs) row h) (λ v ev.
+      let S = fixedIn-sound (2 + length vs) row row-lawful l h v B eh ev in
+      test-cases _ _ _ _ _ (λ r. outside (2 + length vs)) (λ r.
+      test-cases _ _ _ _ _ (λ b. slip (2 + length vs) (mistyped-is l later p v w (ltb-true _ _ d) (ap (λ t. block t (spellValues (row .fields) (row .listed v))) (sym (eqb-true _ _ c)) ∙ S .0) (S .1) (ltb-true _ _ r) b)) (λ b. given))))))
 
 -- ---- behind the ship and some rows
+last-snoc : (vs : List Row) (v : Row) → lastMass (vs ++ (v ∷ [])) ≡ v .mass
+unfolding lastMass
+last-snoc [] v = refl
+last-snoc (u ∷ []) v = refl
+last-snoc (u ∷ w ∷ vs) v = last-snoc (w ∷ vs) v
+
 none-at : {ls : List (List ℕ)} {k ln : ℕ} → NoCondition ls k → ln ≡ k → Stands ls 5 ln 0
 none-at c q = rw q (noneComes _ c)
 
 -- Whatever rises from W = p on, rises behind those rows.
-behind-stands : (ls : List (List ℕ)) (s : Ship) (vs : List Row) (ln k p : ℕ) → Lines ls → ok ship s ≡ true → ((ws : List Row) → Rising p ws → Rising 0 (vs ++ ws)) → length vs ≤ mostRows → ln ≡ 2 + length vs → k ≡ length vs
+behind-stands : (ls : List (List ℕ)) (s : Ship) (vs : List Row) (ln k p : ℕ) → Lines ls → ok ship s ≡ true → ((ws : List Row) → Rising p ws → Rising 0 (vs ++ ws)) → p ≡ lastMass vs → length vs ≤ mostRows → ln ≡ 2 + length vs → k ≡ length vs
     → Refusal (Stands (lead s vs ls)) (behindShip ls ln k p)
 unfolding behindShip Lines Rising BeginA3
-behind-stands [] s vs ln k p B h up m a b = plain (none-at (frontAlone s vs (record { hull = h; rising = rw append-nil at (up [] tt); many = m })) (omega arith))
-behind-stands (l ∷ ls) s vs ln k p B h up m a b = rw (a, b) (go (λ vs ln k p. behind-stands ls s vs ln k p (B .2) h) (isCondition l && leb fewestRows (length vs)) refl)
+behind-stands [] s vs ln k p B h up w m a b = plain (none-at (frontAlone s vs (record { hull = h; rising = rw append-nil at (up [] tt); many = m })) (omega arith))
+behind-stands (l ∷ ls) s vs ln k p B h up w m a b = rw (a, b) (go (λ vs ln k p. behind-stands ls s vs ln k p (B .2) h) (isCondition l && leb fewestRows (length vs)) refl)
   where
     L : Led s vs
     L = record { hull = h; rising = rw append-nil at (up [] tt); many = m }
 
-    go : ((vs : List Row) (ln k p : ℕ) → ((ws : List Row) → Rising p ws → Rising 0 (vs ++ ws)) → length vs ≤ mostRows → ln ≡ 2 + length vs → k ≡ length vs → Refusal (Stands (lead s vs ls)) (behindShip ls ln k p))
+    go : ((vs : List Row) (ln k p : ℕ) → ((ws : List Row) → Rising p ws → Rising 0 (vs ++ ws)) → p ≡ lastMass vs → length vs ≤ mostRows → ln ≡ 2 + length vs → k ≡ length vs → Refusal (Stands (lead s vs ls)) (behindShip ls ln k p))
         → (c : Bool) → (isCondition l && leb fewestRows (length vs)) ≡ c → Refusal (Stands (lead s vs (l ∷ ls))) (behindShip (l ∷ ls) (2 + length vs) (length vs) p)
     go H true q =
         let i : (isCondition l ≡ true) × (leb fewestRows (length vs) ≡ true) = both-true _ _ q in
@@ -109,15 +125,15 @@ behind-stands (l ∷ ls) s vs ln k p B h up m a b = rw (a, b) (go (λ vs ln k p.
         (bind-refusal _ _ (only-stands s vs L ls (l ∷ []) (2 + length vs + 1) (B .2) (leb-true _ _ (i .1)) (eqb-true _ _ (i .0), B .1, tt) (omega arith) (omega arith)) (λ u eu. given))
     go H false q =
         rw (behind-row l ls (2 + length vs) (length vs) p q)
-        (bind-refusal _ _ (row-stands s vs L l ls p (full-length l (B .0)) q) (λ v ev.
+        (bind-refusal _ _ (row-stands s vs L l ls p (B .1) (full-length l (B .0)) w q) (λ v ev.
         let T = row-sound (2 + length vs) (length vs) p l v (B .1) ev in
         let M = length-append vs (v ∷ []) in
         let e : lead s (vs ++ (v ∷ [])) ls ≡ lead s vs (l ∷ ls) = ap (spellBlock ship s ∷_) (rows-snoc vs v ls ∙ ap (λ x. behindRows vs (x ∷ ls)) (T .0)) in
-        bind-refusal _ _ (rw e at (H (vs ++ (v ∷ [])) (2 + length vs + 1) (length vs + 1) (v .mass) (λ ws R. rw append-assoc (up (v ∷ ws) (T .1, T .2, R))) (omega (arith, T .3)) (omega arith) (omega arith))) (λ x ex. given)))
+        bind-refusal _ _ (rw e at (H (vs ++ (v ∷ [])) (2 + length vs + 1) (length vs + 1) (v .mass) (λ ws R. rw append-assoc (up (v ∷ ws) (T .1, R))) (sym (last-snoc vs v)) (omega (arith, T .2)) (omega arith) (omega arith))) (λ x ex. given)))
 
 -- ---- all lines
 frames-stand : (ls : List (List ℕ)) → Lines ls → Refusal (Stands ls) (bookFrames ls)
-unfolding bookFrames shipFrame Lines behindRows
+unfolding bookFrames shipFrame Lines behindRows lastMass
 frames-stand [] B = plain (noneComes 0 emptyText)
 frames-stand (l ∷ ls) B =
     bind-refusal _ _
@@ -125,7 +141,7 @@ frames-stand (l ∷ ls) B =
     test-cases _ _ _ _ _ (λ c. begun-misplaced 1 l h eh (noShip l ls (λ t. eqb-false _ _ c (sym (header-tag 1 0 l h eh) ∙ t)))) (λ c. fixed-stands 1 ship h)))
     (λ v ev.
     let S = ship-sound 1 l v (B .1) ev in
-    bind-refusal _ _ (rw (S .0) at (behind-stands ls v [] 2 0 0 (B .2) (S .1) (λ ws R. R) (omega arith) refl refl)) (λ x ex. given))
+    bind-refusal _ _ (rw (S .0) at (behind-stands ls v [] 2 0 0 (B .2) (S .1) (λ ws R. R) refl (omega arith) refl refl)) (λ x ex. given))
 
 -- ---- a whole text
 whole-stands : (most : ℕ) (t : List ℕ) (ls : List (List ℕ)) → LinesWithin most t ls → Refusal (Stands ls) (readWhole most t)
@@ -162,3 +178,14 @@ five-whole most t l o = (λ e. there (countedLines most t) refl e, λ x. rw (x .
     back : TwentyFifth most t l ⊎ ((ls : List (List ℕ)) × LinesWithin most t ls × NoCondition ls l) → readWhole most t ≡ refused 5 l 0
     back (inl z) = twenty-fifth z
     back (inr z) = read-blocks most t (z .0) (z .1) ∙ none-refused (z .2)
+
+mistyped-refused : {ls : List (List ℕ)} {ln : ℕ} → Mistyped ls ln → bookFrames ls ≡ refused 10 ln 0
+mistyped-refused (mistyped s vs v later L m e r i a b f) =
+    led-last s vs (spellBlock row v ∷ later) L (behind-row (spellBlock row v) later (2 + length vs) (length vs) (lastMass vs) (not-a3 (length vs) v)
+    ∙ bind-refused _ (row-slip (2 + length vs) (length vs) (lastMass vs) v e r (bent-not-smooth (v .kn) i a (omega (arith, kn-long v e)) f) m))
+
+pub ten-whole : (most : ℕ) (t : List ℕ) (ls : List (List ℕ)) → LinesWithin most t ls → (ln o : ℕ) → (readWhole most t ≡ refused 10 ln o) ↔ ((o ≡ 0) × Mistyped ls ln)
+ten-whole most t ls C ln o = (λ e. go (whole-stands most t ls C .holds 10 ln o e), λ x. read-blocks most t ls C ∙ mistyped-refused (x .1) ∙ ap (refused 10 ln) (sym (x .0)))
+  where
+    go : {o : ℕ} → Stands ls 10 ln o → (o ≡ 0) × Mistyped ls ln
+    go (slip ln m) = (refl, m)

@@ -8,7 +8,7 @@ use lib.ListN.{length}
 use borrow.Author.Tests.{leb-true}
 use Rattle.rules.specs.Text.{text}
 use Rattle.rules.specs.Layout.{mostConditions, conditionLines, Booklet}
-use Rattle.rules.specs.Outcome.{Ans, refused, got}
+use Rattle.rules.specs.Outcome.{Ans, refused, got, Unread}
 use Rattle.rules.specs.Booklet.{countedLines, bookFrames, readWhole}
 use Rattle.rules.specs.Apart.{linesOf, spellBooklet, WholeLimits, LinesWithin, AllowedWhole}
 use Rattle.rules.proofs.layout.Lines.{lines-sound}
@@ -55,12 +55,13 @@ sound most t b e =
     let n : length (b .conditions) ≤ mostConditions = rw (← (lines-lead (b .ship) (b .rows) (b .conditions) (F .begin)), F .spells) (C .atMost) in
     (record { hull = F .hull; rising = F .rising; few = F .few; many = F .many; begin = F .begin; some = F .some; atMost = n; long = omega (arith, ap length p, C .long) }, p)
 
-pub complete : (most : ℕ) (b : Booklet) → WholeLimits most b → readWhole most (spellBooklet b) ≡ got b
+-- Its own lines, where it is within the limits.
+pub lines-within : {most : ℕ} {b : Booklet} → WholeLimits most b → LinesWithin most (spellBooklet b) (linesOf b)
 unfolding spellBooklet
-complete most b w =
-    let F = framed w in
-    let n : conditionLines (linesOf b) ≤ mostConditions = rw (lines-lead (b .ship) (b .rows) (b .conditions) (w .begin)) (w .atMost) in
-    read-blocks most (spellBooklet b) (linesOf b) (record { spells = refl; lines = Lines-booklet b F; long = w .long; atMost = n }) ∙ frames-got b F
+lines-within {b = b} w = record { spells = refl; lines = Lines-booklet b (framed w); long = w .long; atMost = rw (lines-lead (b .ship) (b .rows) (b .conditions) (w .begin)) (w .atMost) }
+
+pub complete : (most : ℕ) (b : Booklet) → WholeLimits most b → readWhole most (spellBooklet b) ≡ got b
+complete most b w = read-blocks most (spellBooklet b) (linesOf b) (lines-within w) ∙ frames-got b (framed w)
 
 -- ---- read exactly when allowed, and in one way
 pub read-back : (most : ℕ) (t : List ℕ) (a : AllowedWhole most t) → readWhole most t ≡ got (a .0)
@@ -72,9 +73,9 @@ whole-unique most t a b =
     let q = read-back most t b in
     cc
 
-pub whole-iff-allowed : (most : ℕ) (t : List ℕ) → ((n l o : ℕ) → (1 ≤ n) × (n ≤ 6) → readWhole most t ≢ refused n l o) ↔ AllowedWhole most t
+pub whole-iff-allowed : (most : ℕ) (t : List ℕ) → ((n l o : ℕ) → Unread n → readWhole most t ≢ refused n l o) ↔ AllowedWhole most t
 whole-iff-allowed most t = (λ h. go h (readWhole most t) refl, λ a n l o h e. refused-got (sym e ∙ read-back most t a))
   where
-    go : ((n l o : ℕ) → (1 ≤ n) × (n ≤ 6) → readWhole most t ≢ refused n l o) → (a : Ans Booklet) → readWhole most t ≡ a → AllowedWhole most t
+    go : ((n l o : ℕ) → Unread n → readWhole most t ≢ refused n l o) → (a : Ans Booklet) → readWhole most t ≡ a → AllowedWhole most t
     go h (refused n l o) e = absurd (h n l o (readWhole-refusal most t .holds n l o e) e)
     go h (got b) e = let s = sound most t b e in (b, s .0, s .1)

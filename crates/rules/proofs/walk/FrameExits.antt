@@ -6,9 +6,9 @@ use Prim.Native.Nat.{ℕ, _+_, _≤_, _<_}
 use native.Mathlib.Omega.{arith}
 use lib.ListN.{length}
 use borrow.Author.Tests.{lt-ltb, le-ltb, le-leb, lt-leb, eq-eqb, ne-eqb}
-use Rattle.rules.specs.Blocks.{Layout, size, ok, values, ship, Row, row, Set, code, timber, weather}
+use Rattle.rules.specs.Blocks.{Layout, size, ok, values, ship, Row, row, smooth, Set, code, timber, weather}
 use Rattle.rules.specs.Layout.{mostDepth, mostEntries, mostBytes}
-use Rattle.rules.specs.Outcome.{refused, got, _>>=_}
+use Rattle.rules.specs.Outcome.{refused, got, test, _>>=_, _>>_}
 use Rattle.rules.specs.Walk.{Head, header, fixed, entries, among, chosen, weatherAt, loadAt, inside, conditionIn, fixedIn, shipFrame, rowIn, frameAt}
 use Rattle.rules.specs.Parts.{part, headAt}
 use Rattle.rules.proofs.walk.Outcome.{bind-got, bind-refused, test-got, test-refused}
@@ -129,9 +129,16 @@ module _ (ln p : ℕ) (h : Head) where
   unfolding rowIn
   row-low v e n = bind-got _ e ∙ test-refused _ _ _ _ (le-ltb p (v .mass) n)
 
-  pub row-got : (v : Row) → fixedIn ln row h ≡ got v → p < v .mass → rowIn ln p h ≡ got v
-  unfolding rowIn
-  row-got v e n = bind-got _ e ∙ test-got _ _ _ _ (lt-ltb p (v .mass) n)
+  module _ (v : Row) (e : fixedIn ln row h ≡ got v) (n : p < v .mass) where
+    row-high : rowIn ln p h ≡ (test (smooth (v .kn)) 10 ln 0 >> got v)
+    unfolding rowIn
+    row-high = bind-got _ e ∙ test-got _ _ _ _ (lt-ltb p (v .mass) n)
+
+    pub row-slip : smooth (v .kn) ≡ false → rowIn ln p h ≡ refused 10 ln 0
+    row-slip s = row-high ∙ test-refused _ _ _ _ s
+
+    pub row-got : smooth (v .kn) ≡ true → rowIn ln p h ≡ got v
+    row-got s = row-high ∙ test-got _ _ _ _ s
 
 -- ---- a frame after the ship's
 module _ (ln k p : ℕ) (s : List ℕ) where

@@ -9,13 +9,14 @@ use lib.Dec.{eqb}
 use borrow.Author.Tests.{ltb-true, leb-true, eqb-true, lt-ltb, le-leb}
 use Rattle.rules.specs.Numbers.{Bytes}
 use Rattle.rules.specs.Text.{Lines}
-use Rattle.rules.specs.Blocks.{block, spellValues, Layout, ok, spellBlock, Ship, ship, Row, row, conditionTag}
-use Rattle.rules.specs.Layout.{Condition, Reading, spellCondition, rowFrames, frames, Rising, fewestRows, mostRows, mostBytes, ConditionLimits}
+use Rattle.rules.specs.Blocks.{block, spellValues, Layout, ok, spellBlock, Ship, ship, Row, row, smooth, conditionTag}
+use Rattle.rules.specs.Layout.{Condition, Reading, spellCondition, rowFrames, frames, Follows, Rising, fewestRows, mostRows, mostBytes, ConditionLimits}
 use Rattle.rules.specs.Outcome.{Ans, refused, got, _>>=_}
 use Rattle.rules.specs.Walk.{Head, header, inside, conditionIn, fixedIn, shipFrame, rowIn, Frame, aRow, aCondition, frameOf, Found, tableRow, theCondition, found, frameAt, closed, Tail, after, tail, readFrames}
 use Rattle.rules.proofs.walk.Outcome.{refused-got, bind-inv, test-inv, bind-got, test-got}
 use Rattle.rules.proofs.layout.Fields.{Lawful, length-fits, ship-lawful, row-lawful}
 use Rattle.rules.proofs.walk.Heads.{Bytes-block, Bytes-fixed, header-sound, header-got, header-tag, fixed-sound, fixed-got}
+use Rattle.rules.proofs.walk.FrameExits.{row-slip, row-got}
 use Rattle.rules.proofs.walk.Conditions.{Bytes-condition, inside-sound, inside-got}
 
 -- ---- a frame that fills its line
@@ -44,6 +45,27 @@ fixedIn-sound ln L W l h a B eh e =
 pub fixedIn-got : {A : Type 0} (ln : ℕ) (L : Layout A) (W : Lawful L) (a : A) → ok L a ≡ true → fixedIn ln L (record { tag = L .tag; body = spellValues (L .fields) (L .listed a); rest = [] }) ≡ got a
 unfolding fixedIn
 fixedIn-got ln L W a e = test-got _ _ _ _ refl ∙ fixed-got ln 0 L W true a refl e
+
+-- ---- a row
+pub rowIn-sound : (ln p : ℕ) (l : List ℕ) (h : Head) (v : Row) → Bytes l → header ln 0 l ≡ got h → rowIn ln p h ≡ got v → (block (h .tag) (spellValues (row .fields) (row .listed v)) ≡ l) × Follows p v
+unfolding rowIn
+rowIn-sound ln p l h v B eh e =
+    let w = bind-inv _ _ e in
+    let a = test-inv _ _ _ _ _ (w .2) in
+    let c = test-inv _ _ _ _ _ (a .1) in
+    let f = fixedIn-sound ln row row-lawful l h (w .0) B eh (w .1) in
+    let q : w .0 ≡ v = cc in
+    rw (← q) (f .0, record { limits = f .1; heavier = ltb-true p (w .0 .mass) (a .0); even = c .0 })
+
+-- Its own frame, its limits and its W being as they must be: it is read, or has 10.
+abbrev pub rowHead : Row → Head
+rowHead v = record { tag = row .tag; body = spellValues (row .fields) (row .listed v); rest = [] }
+
+pub rowIn-got : (ln p : ℕ) (v : Row) → Follows p v → rowIn ln p (rowHead v) ≡ got v
+rowIn-got ln p v F = row-got ln p (rowHead v) v (fixedIn-got ln row row-lawful v (F .limits)) (F .heavier) (F .even)
+
+pub rowIn-slip : (ln p : ℕ) (v : Row) → ok row v ≡ true → p < v .mass → smooth (v .kn) ≡ false → rowIn ln p (rowHead v) ≡ refused 10 ln 0
+rowIn-slip ln p v e r s = row-slip ln p (rowHead v) v (fixedIn-got ln row row-lawful v e) r s
 
 -- ---- sound
 abbrev pub code : Frame → ℕ
@@ -93,7 +115,7 @@ closed-sound ln (l ∷ ls) u e = refused-got (bind-inv _ _ e .2)
 
 -- What one frame after the ship's tells, k rows being before it, the last with W = p.
 abbrev pub FrameSpelled : ℕ → ℕ → List ℕ → Found → Type 0
-FrameSpelled k p l (tableRow v) = (spellBlock row v ≡ l) × (ok row v ≡ true) × (p < v .mass) × (k < mostRows)
+FrameSpelled k p l (tableRow v) = (spellBlock row v ≡ l) × Follows p v × (k < mostRows)
 FrameSpelled k p l (theCondition c) = (block conditionTag (spellCondition c) ≡ l) × ConditionLimits c × (fewestRows ≤ k)
 
 -- What the frames after the ship's tell.
@@ -108,16 +130,13 @@ abbrev Sound : (ℕ → ℕ → ℕ → Ans Tail) → List (List ℕ) → Type 0
 Sound w ls = (ln k p : ℕ) (x : Tail) → w ln k p ≡ got x → TailSpelled k p x ls
 
 found-sound : (ln k p : ℕ) (l : List ℕ) (h : Head) (t : Frame) (f : Found) → Bytes l → header ln 0 l ≡ got h → code t ≡ h .tag → found ln k p h t ≡ got f → FrameSpelled k p l f
-unfolding found rowIn conditionIn spellBlock
+unfolding found conditionIn spellBlock
 found-sound ln k p l h aRow f B eh ct e =
     let a = test-inv _ _ _ _ _ e in
-    let b = bind-inv _ _ (a .1) in
-    let v = bind-inv _ _ (b .1) in
-    let r = test-inv _ _ _ _ _ (v .2) in
-    let s = fixedIn-sound ln row row-lawful l h (v .0) B eh (v .1) in
-    let y : v .0 ≡ b .0 = cc in
-    let q : tableRow (b .0) ≡ f = cc in
-    rw (← q, ← y) (ap (λ x. block x (spellValues (row .fields) (row .listed (v .0)))) ct ∙ s .0, s .1, ltb-true p (v .0 .mass) (r .0), ltb-true k mostRows (a .0))
+    let v = bind-inv _ _ (a .1) in
+    let s = rowIn-sound ln p l h (v .0) B eh (v .1) in
+    let q : tableRow (v .0) ≡ f = cc in
+    rw (← q) (ap (λ x. block x (spellValues (row .fields) (row .listed (v .0)))) ct ∙ s .0, s .1, ltb-true k mostRows (a .0))
 found-sound ln k p l h aCondition f B eh ct e =
     let a = test-inv _ _ _ _ _ e in
     let c = bind-inv _ _ (a .1) in
@@ -141,7 +160,7 @@ after-sound w ls S ln k p l (tableRow v) x T e =
     let y = bind-inv _ _ e in
     let t = S _ _ _ (y .0) (y .1) in
     let q : _≡_ {A = Tail} (record { rows = v ∷ y .0 .rows; condition = y .0 .condition }) x = cc in
-    rw (← q) (record { spells = ap₂ _∷_ (T .0) (t .spells); rising = (T .1, T .2, t .rising); few = omega (arith, t .few); many = omega (arith, t .many, T .3); loaded = t .loaded })
+    rw (← q) (record { spells = ap₂ _∷_ (T .0) (t .spells); rising = (T .1, t .rising); few = omega (arith, t .few); many = omega (arith, t .many, T .2); loaded = t .loaded })
 after-sound w ls S ln k p l (theCondition c) x T e =
     let z = bind-inv _ _ e in
     let q : _≡_ {A = Tail} (record { rows = []; condition = c }) x = cc in
@@ -180,12 +199,12 @@ pub ship-got : (ln : ℕ) (v : Ship) → ok ship v ≡ true → shipFrame ln (sp
 unfolding shipFrame spellBlock
 ship-got ln v e = bind-got _ (frame-got ln (ship .tag) (spellValues (ship .fields) (ship .listed v)) (length-fits ship ship-lawful v e)) ∙ test-got _ _ _ _ refl ∙ fixedIn-got ln ship ship-lawful v e
 
-pub tail-row : (v : Row) (ls : List (List ℕ)) (ln k p : ℕ) → ok row v ≡ true → p < v .mass → k < mostRows
+pub tail-row : (v : Row) (ls : List (List ℕ)) (ln k p : ℕ) → Follows p v → k < mostRows
     → tail (spellBlock row v ∷ ls) ln k p ≡ (tail ls (ln + 1) (k + 1) (v .mass) >>= λ x. got (record { rows = v ∷ x .rows; condition = x .condition }))
-unfolding tail frameAt frameOf found rowIn after spellBlock
-tail-row v ls ln k p e r m =
-    bind-got _ (bind-got _ (frame-got ln (row .tag) (spellValues (row .fields) (row .listed v)) (length-fits row row-lawful v e)) ∙ bind-got _ refl
-    ∙ test-got _ _ _ _ (lt-ltb k mostRows m) ∙ bind-got _ (bind-got _ (fixedIn-got ln row row-lawful v e) ∙ test-got _ _ _ _ (lt-ltb p (v .mass) r)))
+unfolding tail frameAt frameOf found after spellBlock
+tail-row v ls ln k p F m =
+    bind-got _ (bind-got _ (frame-got ln (row .tag) (spellValues (row .fields) (row .listed v)) (length-fits row row-lawful v (F .limits))) ∙ bind-got _ refl
+    ∙ test-got _ _ _ _ (lt-ltb k mostRows m) ∙ bind-got _ (rowIn-got ln p v F))
 
 pub condition-frame : (ln k p : ℕ) (body : List ℕ) → fewestRows ≤ k → length body ≤ mostBytes → frameAt ln k p (block conditionTag body) ≡ (inside ln body >>= λ c. got (theCondition c))
 unfolding frameAt frameOf found conditionIn
@@ -196,7 +215,7 @@ condition-frame ln k p body h l =
 tail-got : (vs : List Row) (c : Condition) (ln k p : ℕ) → Rising p vs → fewestRows ≤ k + length vs → length vs ≤ mostRows - k → ConditionLimits c → tail (rowFrames vs c) ln k p ≡ got (record { rows = vs; condition = c })
 unfolding rowFrames Rising tail after closed
 tail-got [] c ln k p R a b l = bind-got _ (condition-frame ln k p (spellCondition c) (omega arith) (l .long) ∙ bind-got _ (inside-got ln c l)) ∙ bind-got _ refl
-tail-got (v ∷ vs) c ln k p R a b l = tail-row v (rowFrames vs c) ln k p (R .0) (R .1) (omega arith) ∙ bind-got _ (tail-got vs c (ln + 1) (k + 1) (v .mass) (R .2) (omega arith) (omega arith) l)
+tail-got (v ∷ vs) c ln k p R a b l = tail-row v (rowFrames vs c) ln k p (R .0) (omega arith) ∙ bind-got _ (tail-got vs c (ln + 1) (k + 1) (v .mass) (R .1) (omega arith) (omega arith) l)
 
 pub readFrames-got : (r : Reading) → Framed r (frames r) → readFrames (frames r) ≡ got r
 unfolding readFrames frames
@@ -206,7 +225,7 @@ readFrames-got r F = bind-got _ (ship-got 1 (r .ship) (F .hull)) ∙ bind-got _ 
 Lines-rows : (vs : List Row) (c : Condition) (p : ℕ) → Rising p vs → ConditionLimits c → Lines (rowFrames vs c)
 unfolding rowFrames Rising Lines spellBlock block
 Lines-rows [] c p R l = (refl, Bytes-block conditionTag (spellCondition c) (omega arith) (omega (arith, l .long)) (Bytes-condition c l), tt)
-Lines-rows (v ∷ vs) c p R l = (refl, Bytes-fixed row row-lawful v (R .0), Lines-rows vs c (v .mass) (R .2) l)
+Lines-rows (v ∷ vs) c p R l = (refl, Bytes-fixed row row-lawful v (R .0 .limits), Lines-rows vs c (v .mass) (R .1) l)
 
 pub Lines-frames : (r : Reading) → Framed r (frames r) → Lines (frames r)
 unfolding frames Lines spellBlock block

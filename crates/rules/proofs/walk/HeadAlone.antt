@@ -65,5 +65,5 @@ module _ (ln : ℕ) where
 
     pub found-by-head : (k w : ℕ) (t : Frame) → ByHead 0 (found ln k w h t) (found ln k w h′ t)
     unfolding found rowIn conditionIn
-    found-by-head k w aRow = test-by-head _ _ _ _ _ _ (first-by-head _ _ _ _ (first-by-head _ _ _ _ (fixedIn-by-head row) (λ v. test-refusal _ _ _ _ _ (λ p. omega arith) given)) (λ v. given))
+    found-by-head k w aRow = test-by-head _ _ _ _ _ _ (first-by-head _ _ _ _ (first-by-head _ _ _ _ (fixedIn-by-head row) (λ v. test-refusal _ _ _ _ _ (λ p. omega arith) (test-refusal _ _ _ _ _ (λ p. omega arith) given))) (λ v. given))
     found-by-head k w aCondition = rw q (test-by-head _ _ _ _ _ _ (first-by-head _ _ _ _ (test-by-head _ _ _ _ _ _ (elsewhere (test-refusal _ _ _ _ _ (λ p. omega arith) (weaker (λ n l o x y z. omega (arith, x .3 y)) (inside-refusal ln (h .body)))))) (λ c. given)))

@@ -135,7 +135,7 @@ module _ (s : Ship) (vs : List Row) (L : Led s vs) where
       bind-refusal _ _ (past-head (frameOf-refusal (2 + length vs) (h .tag))) (λ t et. go h eh t (frameOf-sound (2 + length vs) (h .tag) t et)))
     where
       go : (h : Head) → header (2 + length vs) 0 l ≡ got h → (t : Frame) → code t ≡ h .tag → Refusal (Two (MetOver (lead s vs (l ∷ later)))) (found (2 + length vs) (length vs) p h t)
-      go h eh aRow c = past-head (found-row-refusal (2 + length vs) (length vs) p h)
+      go h eh aRow c = weaker (λ n l o x e. absurd (omega arith)) (found-row-refusal (2 + length vs) (length vs) p h)
       go h eh aCondition c =
           test-cases _ _ _ _ _ (λ y e. absurd (omega arith)) (λ f. bind-refusal _ _ (test-cases _ _ _ _ _ (λ y e. absurd (omega arith)) (λ y. test-cases _ _ _ _ _ (λ x e. absurd (omega arith)) (λ x.
           let S = frame-sound (2 + length vs) l h B eh y in
@@ -170,7 +170,7 @@ tail-over (l ∷ ls) s vs ln k p B h up m a b =
     go L w (tableRow v) T =
         let M = length-append vs (v ∷ []) in
         let e : lead s (vs ++ (v ∷ [])) ls ≡ lead s vs (l ∷ ls) = ap (spellBlock ship s ∷_) (rows-snoc vs v ls ∙ ap (λ x. behindRows vs (x ∷ ls)) (T .0)) in
-        bind-refusal _ _ (rw e at (w (vs ++ (v ∷ [])) (2 + length vs + 1) (length vs + 1) (v .mass) (λ ws R. rw append-assoc (up (v ∷ ws) (T .1, T .2, R))) (omega (arith, T .3)) (omega arith) (omega arith))) (λ x ex. given)
+        bind-refusal _ _ (rw e at (w (vs ++ (v ∷ [])) (2 + length vs + 1) (length vs + 1) (v .mass) (λ ws R. rw append-assoc (up (v ∷ ws) (T .1, R))) (omega (arith, T .2)) (omega arith) (omega arith))) (λ x ex. given)
     go L w (theCondition c) T = bind-refusal _ _ (rw (T .0) at (closed-over s vs L c (T .2) (T .1) ls (B .2))) (λ u eu. given)
 
 frames-over : (ls : List (List ℕ)) → Lines ls → Refusal (Two (MetOver ls)) (readFrames ls)

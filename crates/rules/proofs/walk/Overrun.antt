@@ -90,7 +90,7 @@ rows-refused : (vs : List Row) (ls : List (List ℕ)) (ln ln′ k k′ p : ℕ) 
 unfolding behindRows Rising
 rows-refused [] ls ln ln′ k k′ p R u v m e = let x : ln ≡ ln′ = omega arith in let y : k ≡ k′ = omega arith in rw (x, y) (e p)
 rows-refused (r ∷ vs) ls ln ln′ k k′ p R u v m e =
-    tail-row r (behindRows vs ls) ln k p (R .0) (R .1) (omega arith) ∙ bind-refused _ (rows-refused vs ls (ln + 1) ln′ (k + 1) k′ (r .mass) (R .2) (omega arith) (omega arith) m e)
+    tail-row r (behindRows vs ls) ln k p (R .0) (omega arith) ∙ bind-refused _ (rows-refused vs ls (ln + 1) ln′ (k + 1) k′ (r .mass) (R .1) (omega arith) (omega arith) m e)
 
 led-refused : (s : Ship) (vs : List Row) (ls : List (List ℕ)) {a b c : ℕ} → Led s vs → ((q : ℕ) → tail ls (2 + length vs) (length vs) q ≡ refused a b c) → readFrames (lead s vs ls) ≡ refused a b c
 unfolding readFrames

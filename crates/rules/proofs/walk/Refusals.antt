@@ -1,4 +1,4 @@
--- Every refusal by the walk has a number from 1 to 6, and the line and an offset of what is being read; and so a text is refused exactly when it is not allowed.
+-- Every refusal by the walk has a number from 1 to 6, or 10 at a row, and the line and an offset of what is being read; and so a text is refused exactly when it is not allowed.
 use mathlib.Core.Path.{_≡_, refl, sym, _∙_}
 use mathlib.Core.Logic.{_↔_, _≢_}
 use mathlib.Core.Bool.{Bool, true, false, cond, _&&_}
@@ -11,7 +11,7 @@ use borrow.Author.Tests.{leb-false}
 use Rattle.rules.specs.Numbers.{num}
 use Rattle.rules.specs.Blocks.{Layout, ship, row, conditionTag, Set, weather, ordinary, cargo, item, tank, entry, groupTag}
 use Rattle.rules.specs.Layout.{Reading, leaves, mostDepth, mostEntries, Allowed}
-use Rattle.rules.specs.Outcome.{Ans, refused, got, test, _>>=_, _>>_}
+use Rattle.rules.specs.Outcome.{Ans, refused, got, test, _>>=_, _>>_, Unread}
 use Rattle.rules.specs.Walk.{nibble, unhex, split, decode, linesFrom, Head, header, fixed, Tag, load, nested, tagOf, Block, one, nest, begun, blockAt, Walk, step, walk, entries, sets, among, chosen, weatherAt, loadAt, inside, conditionIn, fixedIn, shipFrame, rowIn, Frame, aRow, aCondition, frameOf, Found, tableRow, theCondition, found, frameAt, closed, after, tail, readFrames, read}
 use Rattle.rules.specs.Parts.{be2}
 use Rattle.rules.proofs.walk.Outcome.{refused-got}
@@ -56,15 +56,25 @@ last-refusal false n l o a = plain a
 abbrev pub NumberFrom : ℕ → ℕ → Type 0
 NumberFrom k n = (k ≤ n) × (n ≤ 6)
 
--- Then also: at this line and offset; at this line, from one offset on and before another; at no line before.
+-- From k to 6, or 10: where there are rows.
+abbrev pub UnreadFrom : ℕ → ℕ → Type 0
+UnreadFrom k n = (k ≤ n) × Unread n
+
+-- Then also: at this line and offset; at this line, from one offset on and before another; at this line and offset 0, of a row; at this line before an offset, of any frame; at no line before.
 abbrev pub At : ℕ → ℕ → ℕ → ℕ → ℕ → ℕ → Type 0
 At k ln at n l o = NumberFrom k n × (l ≡ ln) × (o ≡ at)
 
 abbrev pub Between : ℕ → ℕ → ℕ → ℕ → ℕ → ℕ → Type 0
 Between ln at e n l o = NumberFrom 2 n × (l ≡ ln) × (at ≤ o) × (o < e)
 
+abbrev pub AtRow : ℕ → ℕ → ℕ → ℕ → ℕ → Type 0
+AtRow k ln n l o = UnreadFrom k n × (l ≡ ln) × (o ≡ 0)
+
+abbrev pub InFrame : ℕ → ℕ → ℕ → ℕ → ℕ → Type 0
+InFrame ln e n l o = UnreadFrom 2 n × (l ≡ ln) × (o < e) × (6 < n → o ≡ 0)
+
 abbrev pub NotBefore : ℕ → ℕ → ℕ → ℕ → Type 0
-NotBefore ln n l o = NumberFrom 2 n × (ln ≤ l)
+NotBefore ln n l o = UnreadFrom 2 n × (ln ≤ l)
 
 -- ---- lines
 -- This line is none.
@@ -207,11 +217,11 @@ module _ (ln : ℕ) where
       go false true = given
       go false false = plain (omega arith)
 
-  pub row-refusal : (p : ℕ) (h : Head) → Refusal (At 3 ln 0) (rowIn ln p h)
+  pub row-refusal : (p : ℕ) (h : Head) → Refusal (AtRow 3 ln) (rowIn ln p h)
   unfolding rowIn
-  row-refusal p h = bind-refusal _ _ (fixedIn-refusal row h) (λ v ev. test-refusal _ _ _ _ _ (omega arith) given)
+  row-refusal p h = bind-refusal _ _ (weaker (λ n l o x. omega arith) (fixedIn-refusal row h)) (λ v ev. test-refusal _ _ _ _ _ (omega arith) (test-refusal _ _ _ _ _ (omega arith) given))
 
-  pub found-row-refusal : (k p : ℕ) (h : Head) → Refusal (At 3 ln 0) (found ln k p h aRow)
+  pub found-row-refusal : (k p : ℕ) (h : Head) → Refusal (AtRow 3 ln) (found ln k p h aRow)
   unfolding found
   found-row-refusal k p h = test-refusal _ _ _ _ _ (omega arith) (bind-refusal _ _ (row-refusal p h) (λ v ev. given))
 
@@ -219,17 +229,17 @@ module _ (ln : ℕ) where
   unfolding conditionIn
   condition-refusal h = test-refusal _ _ _ _ _ (omega arith) (test-refusal _ _ _ _ _ (omega arith) (weaker (λ n l o x. (x .0, x .1, omega arith, x .4)) (inside-refusal (h .body))))
 
-  found-refusal : (k p : ℕ) (h : Head) (t : Frame) → Refusal (Between ln 0 (3 + length (h .body))) (found ln k p h t)
+  found-refusal : (k p : ℕ) (h : Head) (t : Frame) → Refusal (InFrame ln (3 + length (h .body))) (found ln k p h t)
   unfolding found
   found-refusal k p h aRow = weaker (λ n l o x. omega arith) (found-row-refusal k p h)
-  found-refusal k p h aCondition = test-refusal _ _ _ _ _ (omega arith) (bind-refusal _ _ (condition-refusal h) (λ c ec. given))
+  found-refusal k p h aCondition = test-refusal _ _ _ _ _ (omega arith) (bind-refusal _ _ (weaker (λ n l o x. omega arith) (condition-refusal h)) (λ c ec. given))
 
-  pub frameAt-refusal : (k p : ℕ) (l : List ℕ) → Refusal (Between ln 0 (max 1 (length l))) (frameAt ln k p l)
+  pub frameAt-refusal : (k p : ℕ) (l : List ℕ) → Refusal (InFrame ln (max 1 (length l))) (frameAt ln k p l)
   unfolding frameAt
   frameAt-refusal k p l =
       bind-refusal _ _ (weaker (λ n l o x. omega arith) (header-refusal 0 l)) (λ h eh.
       let q = header-splits ln 0 l h eh in
-      bind-refusal _ _ (weaker (λ n l o x. omega arith) (frameOf-refusal (h .tag))) (λ t et. weaker (λ n l o x. omega arith) (found-refusal k p h t)))
+      bind-refusal _ _ (weaker (λ n l o x. omega arith) (frameOf-refusal (h .tag))) (λ t et. weaker (λ n l o x. (x .0, x .1, omega arith, x .3)) (found-refusal k p h t)))
 
   pub shipFrame-refusal : (l : List ℕ) → Refusal (At 2 ln 0) (shipFrame ln l)
   unfolding shipFrame
@@ -242,7 +252,7 @@ module _ (ln : ℕ) where
 
 -- The lines of refusals among the frames left: with none left it is the line before.
 abbrev Left : List (List ℕ) → ℕ → ℕ → ℕ → ℕ → Type 0
-Left [] ln n l o = NumberFrom 2 n × (ln ≤ l + 1)
+Left [] ln n l o = UnreadFrom 2 n × (ln ≤ l + 1)
 Left (x ∷ ls) ln n l o = NotBefore ln n l o
 
 not-before : (ls : List (List ℕ)) (ln n l o : ℕ) → Left ls (ln + 1) n l o → NotBefore ln n l o
@@ -258,32 +268,32 @@ tail-refusal (l ∷ ls) ln k p = bind-refusal _ _ (weaker (λ n l o x. omega ari
     go w (tableRow v) = bind-refusal _ _ (weaker (not-before ls ln) (w _ _ _)) (λ x ex. given)
     go w (theCondition c) = bind-refusal _ _ (weaker (λ n l o x. omega arith) (closed-refusal (ln + 1) ls)) (λ u eu. given)
 
-pub readFrames-refusal : (ls : List (List ℕ)) → Refusal (λ n l o. NumberFrom 2 n) (readFrames ls)
+pub readFrames-refusal : (ls : List (List ℕ)) → Refusal (λ n l o. UnreadFrom 2 n) (readFrames ls)
 unfolding readFrames
 readFrames-refusal [] = plain (omega arith)
-readFrames-refusal (l ∷ ls) = bind-refusal _ _ (weaker (λ n l o x. x .0) (shipFrame-refusal 1 l)) (λ v ev. bind-refusal _ _ (weaker (λ n l o x. not-before ls 1 n l o x .0) (tail-refusal ls 2 0 0)) (λ x ex. given))
+readFrames-refusal (l ∷ ls) = bind-refusal _ _ (weaker (λ n l o x. omega arith) (shipFrame-refusal 1 l)) (λ v ev. bind-refusal _ _ (weaker (λ n l o x. not-before ls 1 n l o x .0) (tail-refusal ls 2 0 0)) (λ x ex. given))
 
-pub read-refusal : (t : List ℕ) → Refusal (λ n l o. NumberFrom 1 n) (read t)
-read-refusal t = rw (read-steps t) (test-refusal _ _ _ _ _ (omega arith) (bind-refusal _ _ (lines-refusal 1 t) (λ ls els. weaker (λ n l o h. omega arith) (readFrames-refusal ls))))
+pub read-refusal : (t : List ℕ) → Refusal (λ n l o. Unread n) (read t)
+read-refusal t = rw (read-steps t) (test-refusal _ _ _ _ _ (omega arith) (bind-refusal _ _ (weaker (λ n l o h. omega arith) (lines-refusal 1 t)) (λ ls els. weaker (λ n l o h. omega arith) (readFrames-refusal ls))))
 
 -- ---- what follows
-pub number-of-refusal : (t : List ℕ) {n l o : ℕ} → read t ≡ refused n l o → (1 ≤ n) × (n ≤ 6)
+pub number-of-refusal : (t : List ℕ) {n l o : ℕ} → read t ≡ refused n l o → Unread n
 number-of-refusal t e = read-refusal t .holds _ _ _ e
 
--- Refused with a number from 1 to 6.
+-- Refused with one of these numbers.
 abbrev pub Refused : List ℕ → Type 0
-Refused t = (n : ℕ) × (l : ℕ) × (o : ℕ) × (read t ≡ refused n l o) × (1 ≤ n) × (n ≤ 6)
+Refused t = (n : ℕ) × (l : ℕ) × (o : ℕ) × (read t ≡ refused n l o) × Unread n
 
 -- A text is refused or allowed, and not both.
 refused-or-allowed : {X : Type 0} (t : List ℕ) → (Refused t → X) → (Allowed t → X) → X
 refused-or-allowed {X} t f g = go (read t) refl
   where
     go : (a : Ans Reading) → read t ≡ a → X
-    go (refused n l o) e = let h = number-of-refusal t e in f (n, l, o, e, h .0, h .1)
+    go (refused n l o) e = f (n, l, o, e, number-of-refusal t e)
     go (got r) e = g (read-allowed t .0 (r, e))
 
 pub not-both : (t : List ℕ) (n l o : ℕ) → read t ≡ refused n l o → ¬ Allowed t
 not-both t n l o e a = refused-got (sym e ∙ read-allowed t .1 a .1)
 
-pub unrefused-iff-allowed : (t : List ℕ) → ((n l o : ℕ) → (1 ≤ n) × (n ≤ 6) → read t ≢ refused n l o) ↔ Allowed t
-unrefused-iff-allowed t = (λ h. refused-or-allowed t (λ x. absurd (h (x .0) (x .1) (x .2) (x .4, x .5) (x .3))) (λ a. a), λ a n l o h e. not-both t n l o e a)
+pub unrefused-iff-allowed : (t : List ℕ) → ((n l o : ℕ) → Unread n → read t ≢ refused n l o) ↔ Allowed t
+unrefused-iff-allowed t = (λ h. refused-or-allowed t (λ x. absurd (h (x .0) (x .1) (x .2) (x .4) (x .3))) (λ a. a), λ a n l o h e. not-both t n l o e a)

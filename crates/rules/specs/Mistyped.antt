@@ -1,0 +1,41 @@
+-- Typing slips in KN tables (request 4), said of values and of lines, with no reader. These are words for promises; `judge` rests on none of them.
+use mathlib.Core.Path.{_≡_}
+use mathlib.Core.Logic.{_⊎_}
+use mathlib.Core.Bool.{true}
+use mathlib.Core.List.{List, [], _∷_}
+use Prim.Native.Nat.{ℕ, _+_, _-_, _*_, _≤_, _<_}
+use lib.ListN.{length, getD, set}
+use Rattle.rules.specs.Blocks.{ok, spellBlock, Ship, Row, row}
+use Rattle.rules.specs.Layout.{mostRows, Booklet}
+use Rattle.rules.specs.Loading.{lastMass}
+use Rattle.rules.specs.Met.{Led, lead}
+
+-- Two numbers are more than 400 apart.
+abbrev pub FarApart : ℕ → ℕ → Type 0
+FarApart x y = (x + 400 < y) ⊎ (y + 400 < x)
+
+-- KN value i of a row, at 5 i degrees; and the sum of its two neighbours.
+abbrev pub valueAt : List ℕ → ℕ → ℕ
+valueAt kn i = getD kn i 0
+
+abbrev pub neighbours : List ℕ → ℕ → ℕ
+neighbours kn i = valueAt kn (i - 1) + valueAt kn (i + 1)
+
+-- 'Doubled, differs from the sum of its two neighbours by more than 400.'
+abbrev pub Bent : List ℕ → ℕ → Type 0
+Bent kn i = FarApart (2 * valueAt kn i) (neighbours kn i)
+
+-- Row k, from 0, where there is one.
+abbrev pub nthRow : List Row → ℕ → Row
+nthRow rows k = getD rows k (record { mass = 0; draught = 0; km = 0; kn = [] })
+
+-- A row with another KN value at station i; rows, with that in the place of row k; and a booklet with such rows.
+abbrev pub retyped : ℕ → ℕ → Row → Row
+retyped i x v = record { mass = v .mass; draught = v .draught; km = v .km; kn = set (v .kn) i x }
+
+abbrev pub retypedIn : Booklet → ℕ → ℕ → ℕ → Booklet
+retypedIn b k i x = record { ship = b .ship; rows = set (b .rows) k (retyped i x (nthRow (b .rows) k)); conditions = b .conditions }
+
+-- `Mistyped ls ln`: in the lines ls, line ln is a row with a slip at one of its inner values, those at 5 to 55 degrees. Ship and rows before it are as they must be, and so is it, in its place, its limits and its W. What stands behind it may be anything.
+pub data Mistyped : List (List ℕ) → ℕ → Type 0 where
+  mistyped : (s : Ship) (vs : List Row) (v : Row) (later : List (List ℕ)) → Led s vs → length vs < mostRows → ok row v ≡ true → lastMass vs < v .mass → (i : ℕ) → 1 ≤ i → i ≤ 11 → Bent (v .kn) i → Mistyped (lead s vs (spellBlock row v ∷ later)) (2 + length vs)
