@@ -8,7 +8,7 @@ use native.Mathlib.Numerals.{add-one}
 use lib.ListN.{length, getD, set, replicate, drop, drop-of-length-le}
 use lib.Seq.{drop-cons}
 use borrow.Author.Tests.{le-leb, lt-leb}
-use Rattle.rules.specs.Blocks.{Field, field, within, values, row}
+use Rattle.rules.specs.Blocks.{Field, field, within, values, row, unbent, smooth}
 use Rattle.rules.specs.Parts.{be2, valuesAt}
 use Rattle.rules.proofs.layout.Parts.{num-two, values-at}
 use Rattle.blocks.proofs.Limits.{fit}
@@ -45,6 +45,41 @@ module _ (kn : List ℕ) (h : length kn ≡ 13) where
   pub levers-done : leversLeft kn 13 ≡ true
   unfolding within
   levers-done = rw (drop-of-length-le kn {i = 13} (omega arith))
+
+-- Those from the one before i on are smooth.
+abbrev pub smoothLeft : List ℕ → ℕ → Bool
+smoothLeft kn i = smooth (drop (i - 1) kn)
+
+module _ (kn : List ℕ) (h : length kn ≡ 13) where
+  module _ (i : ℕ) (a : 1 ≤ i) (l : i < 12) where
+    three : drop (i - 1) kn ≡ getD kn (i - 1) 0 ∷ getD kn i 0 ∷ getD kn (i + 1) 0 ∷ drop (i + 2) kn
+    three =
+        let p : suc (i - 1) ≡ i = omega arith in
+        let q : suc i ≡ i + 1 = omega arith in
+        let r : suc (i + 1) ≡ i + 2 = omega arith in
+        drop-cons kn (i - 1) 0 (omega arith) ∙ ap (getD kn (i - 1) 0 ∷_) (ap (λ j. drop j kn) p ∙ drop-cons kn i 0 (omega arith) ∙ ap (getD kn i 0 ∷_) (ap (λ j. drop j kn) q ∙ drop-cons kn (i + 1) 0 (omega arith) ∙ ap (λ j. getD kn (i + 1) 0 ∷ drop j kn) r))
+
+    two : drop (i + 1 - 1) kn ≡ getD kn i 0 ∷ getD kn (i + 1) 0 ∷ drop (i + 2) kn
+    two =
+        let p : i + 1 - 1 ≡ i = omega arith in
+        let q : suc i ≡ i + 1 = omega arith in
+        let r : suc (i + 1) ≡ i + 2 = omega arith in
+        ap (λ j. drop j kn) p ∙ drop-cons kn i 0 (omega arith) ∙ ap (getD kn i 0 ∷_) (ap (λ j. drop j kn) q ∙ drop-cons kn (i + 1) 0 (omega arith) ∙ ap (λ j. getD kn (i + 1) 0 ∷ drop j kn) r)
+
+    smooth-one : smoothLeft kn i ≡ (unbent (getD kn (i - 1) 0) (getD kn i 0) (getD kn (i + 1) 0) && smoothLeft kn (i + 1))
+    unfolding smooth
+    smooth-one = ap smooth three ∙ ap (unbent (getD kn (i - 1) 0) (getD kn i 0) (getD kn (i + 1) 0) &&_) (ap smooth (sym two))
+
+    pub smooth-next : unbent (getD kn (i - 1) 0) (getD kn i 0) (getD kn (i + 1) 0) ≡ true → smoothLeft kn i ≡ smoothLeft kn (i + 1)
+    smooth-next e = smooth-one ∙ rw e
+
+    pub smooth-stop : unbent (getD kn (i - 1) 0) (getD kn i 0) (getD kn (i + 1) 0) ≡ false → smoothLeft kn i ≡ false
+    smooth-stop e = smooth-one ∙ rw e
+
+  -- The last two, of which neither is an inner value any more.
+  pub smooth-done : smoothLeft kn 12 ≡ true
+  unfolding smooth
+  smooth-done = ap smooth (drop-cons kn 11 0 (omega arith) ∙ ap (getD kn 11 0 ∷_) (drop-cons kn 12 0 (omega arith) ∙ ap (getD kn 12 0 ∷_) (drop-of-length-le kn {i = 13} (omega arith))))
 
 -- f 0, .., f (n - 1) at the front of a list.
 unfoldable pub written : (ℕ → ℕ) → ℕ → List ℕ → List ℕ

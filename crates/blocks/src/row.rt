@@ -3,7 +3,7 @@ ghost use mathlib.Core.Path.{_≡_};
 ghost use mathlib.Core.List.{_∷_};
 ghost use Prim.Native.Nat.{_+_, _≤_};
 ghost use lib.ListN.{length, replicate};
-ghost use Rattle.rules.specs.Blocks.{field, within, values, ok, row};
+ghost use Rattle.rules.specs.Blocks.{field, within, values, ok, row, unbent, smooth};
 ghost use Rattle.rules.specs.Outcome.{refused};
 ghost use Rattle.rules.specs.Walk.{rowIn};
 ghost use Rattle.rules.specs.Parts.{headAt};
@@ -92,6 +92,29 @@ fn row_fits(r: book::Row) -> bool
     both(fits(r.mass, 100_000, 600_000_000), form)
 }
 
+// 'Some inner KN value, doubled, differs from the sum of its two neighbours by more than 400': not x between a and b.
+fn not_bent(a: u16, x: u16, b: u16) -> bool
+    ensures { λ r. ⌜ r ≡ unbent a x b ⌝ }
+{
+    let doubled = 2 * (x as u32);
+    let neighbours = a as u32 + b as u32;
+    both(doubled <= neighbours + 400, neighbours <= doubled + 400)
+}
+
+// None of the inner values does, those at 5 to 55 degrees.
+fn is_smooth(kn: [u16; 13]) -> bool
+    ensures { λ r. ⌜ r ≡ smooth kn ⌝ }
+{
+    let mut i = 1;
+    while i < 12 {
+        if !not_bent(kn[i - 1], kn[i], kn[i + 1]) {
+            return false;
+        }
+        i = i + 1;
+    }
+    true
+}
+
 pub fn blank_row() -> book::Row
     ensures { λ r. ⌜ r ≡ blankRow ⌝ }
 {
@@ -112,7 +135,7 @@ fn no_row(number: u8, line: usize) -> RowRead
     }
 }
 
-// A row whose head is read, its W above the last row's: 3, 6.
+// A row whose head is read, its W above the last row's: 3, 6, 10.
 pub fn row_in(s: &[u8], len: usize, line: usize, last: u64) -> RowRead
     requires { ⌜ 3 + len ≤ length (now s) ⌝ }
     ensures { λ r. ⌜ r ≡ rowRead (rowIn line last (headAt 0xA2 len (now (s .entry)))) ⌝ }
@@ -129,6 +152,10 @@ pub fn row_in(s: &[u8], len: usize, line: usize, last: u64) -> RowRead
     }
     if row.mass <= last {
         return no_row(6, line);
+    }
+    let kn = row.kn;
+    if !is_smooth(kn) {
+        return no_row(10, line);
     }
     RowRead {
         answer: RowAnswer::Within,

@@ -1,11 +1,11 @@
--- `row_in` meets its contract: alone on its line, its length, its limits, its W: 3, 3, 6, 6.
+-- `row_in` meets its contract: alone on its line, its length, its limits, its W, its slips: 3, 3, 6, 6, 10.
 use mathlib.Core.Path.{ap, sym, _∙_}
 use borrow.Author.Tests.{not-true, not-false}
 use borrow.Author.Needs.{needs}
 use denote.Ref.{now}
 use Rattle.rules.specs.Outcome.{got}
 use Rattle.rules.specs.Blocks.{size, ok, row}
-use Rattle.rules.proofs.walk.FrameExits.{fixedIn-longer, fixedIn-length, fixedIn-outside, fixedIn-within, row-refused, row-low, row-got}
+use Rattle.rules.proofs.walk.FrameExits.{fixedIn-longer, fixedIn-length, fixedIn-outside, fixedIn-within, row-refused, row-low, row-slip, row-got}
 use Rattle.book.specs.Book.{rowOf}
 use Rattle.blocks.specs.BlockAnswers.{rowRead}
 use Rattle.blocks.proofs.row.row_in.Statement.{statement}
@@ -78,17 +78,39 @@ returns-4 c =
     let g = fixedIn-within _ 0xA2 _ (now (s .args .s)) (s .pre) row (o .before .if1 .left) (o .if2 .left) (ap (ok row) (sym e) ∙ sym (f .row-fits .ensures) ∙ not-false _ (i .if3 .left)) in
     c .no-row4 .ensures ∙ sym (ap rowRead (row-low _ _ _ (rowOf (r .read-row .result)) (g ∙ ap got (sym e)) (c .before .if4 .taken)))
 
+is-smooth-requires : tie.Need-is-smooth-requires
+is-smooth-requires c κs = search needs
+
+no-row-requires-5 : tie.Need-no-row-requires-5
+no-row-requires-5 c κs = search needs
+
 returns-5 : tie.Need-returns-5
 unfolding size
 returns-5 c =
-    let i = c .before .before in
+    let k = c .before .before in
+    let w = k .before .before in
+    let i = w .before .before in
     let f = i .before in
     let r = f .before in
     let o = r .before .before in
     let s = o .before .before .before in
     let e = r .read-row .ensures in
     let g = fixedIn-within _ 0xA2 _ (now (s .args .s)) (s .pre) row (o .before .if1 .left) (o .if2 .left) (ap (ok row) (sym e) ∙ sym (f .row-fits .ensures) ∙ not-false _ (i .if3 .left)) in
-    sym (ap rowRead (row-got _ _ _ (rowOf (r .read-row .result)) (g ∙ ap got (sym e)) (c .if4 .left)))
+    c .no-row5 .ensures ∙ sym (ap rowRead (row-slip _ _ _ (rowOf (r .read-row .result)) (g ∙ ap got (sym e)) (w .if4 .left) (sym (k .is-smooth .ensures) ∙ not-true _ (c .before .if5 .taken))))
+
+returns-6 : tie.Need-returns-6
+unfolding size
+returns-6 c =
+    let k = c .before in
+    let w = k .before .before in
+    let i = w .before .before in
+    let f = i .before in
+    let r = f .before in
+    let o = r .before .before in
+    let s = o .before .before .before in
+    let e = r .read-row .ensures in
+    let g = fixedIn-within _ 0xA2 _ (now (s .args .s)) (s .pre) row (o .before .if1 .left) (o .if2 .left) (ap (ok row) (sym e) ∙ sym (f .row-fits .ensures) ∙ not-false _ (i .if3 .left)) in
+    sym (ap rowRead (row-got _ _ _ (rowOf (r .read-row .result)) (g ∙ ap got (sym e)) (w .if4 .left) (sym (k .is-smooth .ensures) ∙ not-false _ (c .if5 .left))))
 
 pub row-in-spec : {M : Type 1} → statement M
 row-in-spec =
@@ -109,4 +131,7 @@ row-in-spec =
     returns-3
     no-row-requires-4
     returns-4
-    returns-5)
+    is-smooth-requires
+    no-row-requires-5
+    returns-5
+    returns-6)
