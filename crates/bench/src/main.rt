@@ -4,12 +4,22 @@ ghost use lib.ListN.{length};
 use libc::STDOUT_FILENO;
 use numbers::least;
 
-// The number in a line of its own, and so many bytes of the buffer.
-fn print_reply(number: u8, written: usize, report: &[u8]) -> bool
-    requires { ⌜ (number ≤ 9) × (written ≤ length (now report)) ⌝ }
+// A number of one or two digits in a line of its own.
+fn print_number(number: u8) -> bool
+    requires { ⌜ number ≤ 99 ⌝ }
 {
-    let line = [48 + number, b'\n'];
-    if !io::write_all(STDOUT_FILENO, &line) {
+    let line = [48 + number / 10, 48 + number % 10, b'\n'];
+    if number < 10 {
+        return io::write_all(STDOUT_FILENO, &line[1..]);
+    }
+    io::write_all(STDOUT_FILENO, &line)
+}
+
+// The number, and so many bytes of the buffer.
+fn print_reply(number: u8, written: usize, report: &[u8]) -> bool
+    requires { ⌜ (number ≤ 99) × (written ≤ length (now report)) ⌝ }
+{
+    if !print_number(number) {
         return false;
     }
     io::write_all(STDOUT_FILENO, &report[..written])

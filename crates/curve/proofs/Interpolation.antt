@@ -12,7 +12,7 @@ use Rattle.rules.specs.Blocks as rules
 use Rattle.rules.specs.Curve as curve
 use Rattle.rules.proofs.rounding.Rounding.{rounded-unique}
 use Rattle.rules.proofs.rounding.StraightLine.{line-rounded}
-use Rattle.rules.proofs.loading.Rows.{column, between-is}
+use Rattle.rules.proofs.loading.Rows.{row-follows, column, between-is}
 use Rattle.rounding.specs.Points.{Between}
 use Rattle.book.specs.Book.{shipOf, rowOf, weatherOf, rowsOf, loadedOf}
 use Rattle.book.specs.declared.Row.{Row}

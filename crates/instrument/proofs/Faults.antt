@@ -1,4 +1,4 @@
--- Numbers 1 and 2 through the report: exactly where the text is no line, and where a block overruns, of the whole or in a condition line.
+-- Numbers 1, 2, 4, 5 and 10 through the report of a whole text, and 2 of a condition line: exactly where the text is no line, where a block overruns, where a line is misplaced or owed, and where a row has a typing slip.
 use mathlib.Core.Path.{_≡_, refl, ap, sym, _∙_}
 use mathlib.Core.Bool.{Bool, true, false}
 use mathlib.Core.List.{List}
@@ -10,7 +10,7 @@ use lib.Dec.{leb}
 use lib.ListN.{length}
 use Rattle.rules.specs.Blocks.{Ship, Row}
 use Rattle.rules.specs.Layout.{mostCharacters, mostConditions}
-use Rattle.rules.specs.Outcome.{Ans, refused, got, _>>=_}
+use Rattle.rules.specs.Outcome.{Ans, refused, got, _>>=_, Unread}
 use Rattle.rules.specs.Walk.{linesFrom, readFrames, read}
 use Rattle.rules.specs.Report.{Judgement, noJudgement, report}
 use Rattle.rules.specs.Booklet.{counted, bookFrames, readWhole}
@@ -26,9 +26,9 @@ use Rattle.rules.proofs.booklet.WholeText.{lines-of-refused}
 use Rattle.rules.proofs.booklet.Conditions.{answer-refused, answer-refusal}
 use Rattle.rules.proofs.booklet.Sent.{answers-length}
 use Rattle.rules.proofs.booklet.Alone.{answer-at}
-use Rattle.rules.proofs.booklet.WhereRefused.{two-whole, four-whole, five-whole}
+use Rattle.rules.proofs.booklet.WhereRefused.{two-whole, four-whole, five-whole, ten-whole}
 use Rattle.rules.proofs.booklet.LineOverrun.{two-line}
-use Rattle.instrument.specs.Faults.{NoLineAt, WholeOverrunAt, MisplacedAt, OwedAt, LineOverrunAt}
+use Rattle.instrument.specs.Faults.{NoLineAt, WholeOverrunAt, MisplacedAt, OwedAt, SlipAt, LineOverrunAt}
 use Rattle.instrument.specs.Reported.{reportIn, HasNumber, RefusedWhole}
 use Rattle.instrument.proofs.FirstNumber.{first-of}
 use Rattle.instrument.proofs.LineReport.{Reports, by-line, has-refused, read-by, one-number}
@@ -92,9 +92,9 @@ module _ {t before : List ℕ} {n : ℕ} {after : List ℕ} (run : Run t before 
       found l (yes short) e = inr (short, one-no-line t short l 0 .0 e .1)
       found l (no long) e = let q = one-too-long t .1 (let k : mostCharacters < length t = omega arith in k) in inl (omega arith, (let u : l ≡ 0 = cc in u))
 
-  -- ---- 2, 4 and 5 for the whole
+  -- ---- 2, 4, 5 and 10 for the whole
   -- A number that is met at the lines P, and at no others, is sent back and reported so.
-  whole-at : (m : ℕ) (P : ℕ → Type 0) → (1 ≤ m) × (m ≤ 6) → ((l : ℕ) → (readWhole mostCharacters t ≡ refused m l 0) ↔ P l)
+  whole-at : (m : ℕ) (P : ℕ → Type 0) → Unread m → ((l : ℕ) → (readWhole mostCharacters t ≡ refused m l 0) ↔ P l)
       → (l : ℕ) → (((refusal : RefusedWhole t before n after) × (n ≡ m) × (refusal .line ≡ l)) ↔ P l) × (P l → reportIn 0 after ≡ report m l 0 noJudgement)
   whole-at m P h iff l = (
     (λ x. iff l .0 (x .0 .refusal ∙ ap (λ m. refused m (x .0 .line) 0) (x .1) ∙ ap (λ l. refused m l 0) (x .2)), λ v. sent (iff l .1 v)),
@@ -104,7 +104,7 @@ module _ {t before : List ℕ} {n : ℕ} {after : List ℕ} (run : Run t before 
       sent : readWhole mostCharacters t ≡ refused m l 0 → (refusal : RefusedWhole t before n after) × (n ≡ m) × (refusal .line ≡ l)
       sent e =
           let s = whole-sent run m l 0 e in
-          (record { line = l; refusal = e ∙ ap (λ m. refused m l 0) (sym (s .0)); from1to6 = (omega (arith, s .0), omega (arith, s .0)); reported = s .1 ∙ ap (λ m. report m l 0 noJudgement) (sym (s .0)); beyond = s .2 }, s .0, refl)
+          (record { line = l; refusal = e ∙ ap (λ m. refused m l 0) (sym (s .0)); unread = rw (s .0) h; reported = s .1 ∙ ap (λ m. report m l 0 noJudgement) (sym (s .0)); beyond = s .2 }, s .0, refl)
 
   pub whole-overrun : (l : ℕ) → (((refusal : RefusedWhole t before n after) × (n ≡ 2) × (refusal .line ≡ l)) ↔ WholeOverrunAt t l) × (WholeOverrunAt t l → reportIn 0 after ≡ report 2 l 0 noJudgement)
   whole-overrun = whole-at 2 (WholeOverrunAt t) (omega arith) (λ l. (
@@ -120,6 +120,12 @@ module _ {t before : List ℕ} {n : ℕ} {after : List ℕ} (run : Run t before 
 
   pub whole-owed : (l : ℕ) → (((refusal : RefusedWhole t before n after) × (n ≡ 5) × (refusal .line ≡ l)) ↔ OwedAt t l) × (OwedAt t l → reportIn 0 after ≡ report 5 l 0 noJudgement)
   whole-owed = whole-at 5 (OwedAt t) (omega arith) (λ l. (λ e. five-whole mostCharacters t l 0 .0 e .1, λ v. five-whole mostCharacters t l 0 .1 (refl, v)))
+
+  pub whole-slip : (l : ℕ) → (((refusal : RefusedWhole t before n after) × (n ≡ 10) × (refusal .line ≡ l)) ↔ SlipAt t l) × (SlipAt t l → reportIn 0 after ≡ report 10 l 0 noJudgement)
+  whole-slip = whole-at 10 (SlipAt t) (omega arith) (λ l. (
+    λ e. let f = lines-of-refused mostCharacters t 10 l 0 e (λ z. omega arith) (λ z. omega arith) in (f .0, f .1, ten-whole mostCharacters t (f .0) (f .1) l 0 .0 e .1),
+    λ v. ten-whole mostCharacters t (v .0) (v .1) l 0 .1 (refl, v .2),
+  ))
 
   module _ (a : AllowedWhole mostCharacters t) (k : ℕ) (h : k < length (a .0 .conditions)) where
     abbrev here : Reports (a .0 .ship) (a .0 .rows) (lineNumber (a .0) k) (lineAt (a .0) k) (reportIn k after)

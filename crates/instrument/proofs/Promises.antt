@@ -1,5 +1,5 @@
 -- What is promised of the instrument, to be read without the proofs: each promise is one theorem with a sentence above it, and its proof stands elsewhere.
--- All are stated of `judge`, or of `room` or `judge_within`, through its contract, which it is proved to meet (proofs/judge, room, judge_within). Their words are defined in the rules' specs/: Apart (which texts are allowed as a whole, which condition lines are, and what each says), Booklet and Answer (the order of checks, and what is answered), Report and Columns (a report's 209 characters, and where each number stands among them), Places (where a refusal may stand), Leaves and Loading (sums, masses and KG), Cargo and Timber (a C3 made a C5, and the slots of the timber set); and in specs/: Reported (where report k stands, and what is left in the buffer), Faults (1, 2, 4 and 5), Outside (7 and 8) and OneTag (two condition lines that differ in one tag alone).
+-- All are stated of `judge`, or of `room` or `judge_within`, through its contract, which it is proved to meet (proofs/judge, room, judge_within). Their words are defined in the rules' specs/: Apart (which texts are allowed as a whole, which condition lines are, and what each says), Booklet and Answer (the order of checks, and what is answered), Report and Columns (a report's 209 characters, and where each number stands among them), Places (where a refusal may stand), Leaves and Loading (sums, masses and KG), Mistyped (typing slips), Cargo and Timber (a C3 made a C5, and the slots of the timber set); and in specs/: Reported (where report k stands, and what is left in the buffer), Faults (1, 2, 4, 5 and 10), Outside (7 and 8) and OneTag (two condition lines that differ in one tag alone).
 -- Reports, conditions and figures are counted from 0, verdicts from 1, lines of a text from 1.
 use mathlib.Core.Path.{_≡_, refl, ap, sym, _∙_}
 use mathlib.Core.Bool.{true}
@@ -8,7 +8,7 @@ use mathlib.Core.List.{List, [], _∷_, _++_}
 use Prim.Native.Nat.{ℕ, _+_, _*_, max, _≤_, _<_}
 use native.Mathlib.Omega.{arith}
 use lib.IntN.{pos}
-use lib.ListN.{length, drop, getD}
+use lib.ListN.{length, drop, getD, set}
 use denote.Ref.{RefT, now}
 use Rattle.rules.specs.Rounding.{ceil}
 use Rattle.rules.specs.Numbers.{Bytes, digits, twos}
@@ -28,6 +28,7 @@ use Rattle.rules.specs.Met.{Overruns}
 use Rattle.rules.specs.Places.{Placed, SameBefore, lookedAt}
 use Rattle.rules.specs.Booklet.{readWhole, conditionAt}
 use Rattle.rules.specs.Apart.{spellBooklet, AllowedWhole, AllowedLine, LinesWithin, lineAt, readingAt, alone, respelt, LastAlone, Misplaced, lineNumber}
+use Rattle.rules.specs.Mistyped.{FarApart, valueAt, Bent, nthRow, retypedIn}
 use Rattle.rules.specs.Answer.{answered, numberOf, reportOf, inLine, number, bytesSent, written, limited}
 use Rattle.rules.specs.Answer as answers
 use Rattle.rules.proofs.walk.Retagged.{tanks-alike}
@@ -43,7 +44,7 @@ use Rattle.rules.proofs.bench.CargoTank.{tanker, cargo-output, planner-holds}
 use Rattle.rules.proofs.bench.TimberDeck.{tender, tender-output, tender-timber-output, coaster, coaster-output, coaster-timber-output, timbers-hold}
 use Rattle.rules.proofs.bench.Regrouped.{regrouped, asOne, asGroup, reads-as, same-sums, two-texts}
 use Rattle.instrument.specs.Reported.{reportIn, numberIn, HasNumber, RefusedLine, SameButLine, RefusedAt, RefusedWhole, EachAnswered}
-use Rattle.instrument.specs.Faults.{NoLineAt, WholeOverrunAt, MisplacedAt, OwedAt, LineOverrunAt}
+use Rattle.instrument.specs.Faults.{NoLineAt, WholeOverrunAt, MisplacedAt, OwedAt, SlipAt, LineOverrunAt}
 use Rattle.instrument.specs.Outside.{Outside, TooHigh, Neither}
 use Rattle.instrument.specs.OneTag.{OtherTagIn}
 use Rattle.instrument.proofs.judge.Reads as judge
@@ -106,8 +107,8 @@ module _ (text before : List ℕ) (n : ℕ) (after : List ℕ) (run : Judges tex
     abbrev ran : replies.Run text before n after
     ran = record { numbered = settled .0; left = settled .1; enough = enough }
 
-    -- With that room every text is answered: the number is one of 0 to 8, and the text is refused for the whole, in one report, or each of its conditions has a report; every byte beyond is as it was.
-    pub every-text-answered : (n ≤ 8) × (RefusedWhole text before n after ⊎ EachAnswered text before n after)
+    -- With that room every text is answered: the number is one of 0 to 8, or 10, and the text is refused for the whole, in one report, or each of its conditions has a report; every byte beyond is as it was.
+    pub every-text-answered : (n ≤ 10) × (n ≢ 9) × (RefusedWhole text before n after ⊎ EachAnswered text before n after)
     every-text-answered = replies.every ran
 
     -- It is refused for the whole exactly when it is not allowed as a whole, and its conditions are answered exactly when it is; so never both.
@@ -119,7 +120,7 @@ module _ (text before : List ℕ) (n : ℕ) (after : List ℕ) (run : Judges tex
     pub refusal-reported : (m l o : ℕ) → readWhole mostCharacters text ≡ refused m l o → (n ≡ m) × (reportIn 0 after ≡ report m l o noJudgement) × (drop reportLength after ≡ drop reportLength before)
     refusal-reported = replies.whole-sent ran
 
-    -- The place lies within the text as document 01 has it: for 1 and for 2 to 6 one of the text's own lines, or line 0 where it is over 180,000 characters (1) or empty (5). The offset is 0. No line above 60,000 is named, so that it fits its two bytes.
+    -- The place lies within the text as document 01 has it: for 1 to 6 and 10 one of the text's own lines, or line 0 where it is over 180,000 characters (1) or empty (5). The offset is 0. No line above 60,000 is named, so that it fits its two bytes.
     pub refusal-placed : (refusal : RefusedWhole text before n after) → Placed text n (refusal .line) 0 × (refusal .line ≤ 60_000)
     refusal-placed refusal = (whole-placed text .holds n (refusal .line) 0 (refusal .refusal), booklets.whole-place mostCharacters text n (refusal .line) 0 (omega arith) (refusal .refusal) .0)
 
@@ -148,12 +149,31 @@ module _ (text before : List ℕ) (n : ℕ) (after : List ℕ) (run : Judges tex
     pub five-iff-owed : (l : ℕ) → (((refusal : RefusedWhole text before n after) × (n ≡ 5) × (refusal .line ≡ l)) ↔ OwedAt text l) × (OwedAt text l → reportIn 0 after ≡ report 5 l 0 noJudgement)
     five-iff-owed = faults.whole-owed ran
 
+    -- A text is refused with 10 for the whole, at a line, exactly when it is lines, within 180,000 characters and with at most 24 that begin with A3, in which that line is a row with a typing slip: ship and rows before it are as they must be, and so is it, in its place, its limits and its W,
+    -- but for one of its inner KN values, which, doubled, differs from the sum of its two neighbours by more than 400. Its one report has the line.
+    pub ten-iff-slip : (l : ℕ) → (((refusal : RefusedWhole text before n after) × (n ≡ 10) × (refusal .line ≡ l)) ↔ SlipAt text l) × (SlipAt text l → reportIn 0 after ≡ report 10 l 0 noJudgement)
+    ten-iff-slip = faults.whole-slip ran
+
     -- ---- the conditions of a text that is allowed as a whole
     module _ (a : AllowedWhole mostCharacters text) where
       -- The number is 0 exactly when every report has the number 0. Otherwise it is that of a report, and every report before that has the number 0.
       pub number-is-first : ((n ≡ 0) ↔ ((k : ℕ) → k < length (a .0 .conditions) → HasNumber 0 (reportIn k after)))
           × (1 ≤ n → (k : ℕ) × (k < length (a .0 .conditions)) × HasNumber n (reportIn k after) × ((i : ℕ) → i < k → HasNumber 0 (reportIn i after)))
       number-is-first = first-sent ran a
+
+      -- ---- typing slips
+      -- No inner value of a row is wrong by more than 400 against the straight line of its neighbours, doubled.
+      pub typing-slip : (k i : ℕ) → k < length (a .0 .rows) → 1 ≤ i → i ≤ 11 → ¬ Bent (nthRow (a .0 .rows) k .kn) i
+      typing-slip = booklets.typing-slip mostCharacters text (a .0) (replies.read-back a)
+
+      -- Take one of its rows and one inner value of it, and let that value be another, within its limits and more than 400 off, all else being the same: with room, that text gets 10, and its one report has that row's line.
+      pub slip-caught : (k i v : ℕ) → k < length (a .0 .rows) → 1 ≤ i → i ≤ 11 → v ≤ 30_000 → FarApart (valueAt (nthRow (a .0 .rows) k .kn) i) v
+          → (before′ : List ℕ) (n′ : ℕ) (after′ : List ℕ) → Judges (spellBooklet (retypedIn (a .0) k i v)) before′ n′ after′ → answers.room mostCharacters (spellBooklet (retypedIn (a .0) k i v)) ≤ length before′
+          → (n′ ≡ 10) × (reportIn 0 after′ ≡ report 10 (2 + k) 0 noJudgement)
+      slip-caught k i v h from to d f before′ n′ after′ run′ room =
+          let q = contract _ before′ n′ after′ .0 run′ in
+          let s = replies.whole-sent (record { numbered = q .0; left = q .1; enough = room }) 10 (2 + k) 0 (booklets.slip-caught mostCharacters text (a .0) (replies.read-back a) k i v h from to d f) in
+          (s .0, s .1)
 
       module _ (k : ℕ) (h : k < length (a .0 .conditions)) where
         abbrev line : lines.Reports (a .0 .ship) (a .0 .rows) (lineNumber (a .0) k) (lineAt (a .0) k) (reportIn k after)
@@ -241,6 +261,11 @@ one-booklet = booklets.one-booklet mostCharacters
 
 pub one-condition : (l : List ℕ) (c c′ : AllowedLine l) → c .0 ≡ c′ .0
 one-condition = booklets.one-condition
+
+-- A row that is read and one that differs from it in a single inner value, by more than 400, are not both read, in whatever two texts they stand: never are both allowed as a whole, and so answered condition by condition.
+pub not-both-read : (text text′ : List ℕ) (a : AllowedWhole mostCharacters text) (a′ : AllowedWhole mostCharacters text′) (k k′ i v : ℕ) → k < length (a .0 .rows) → k′ < length (a′ .0 .rows) → 1 ≤ i → i ≤ 11
+    → nthRow (a′ .0 .rows) k′ .kn ≡ set (nthRow (a .0 .rows) k .kn) i v → ¬ FarApart (valueAt (nthRow (a .0 .rows) k .kn) i) v
+not-both-read text text′ a a′ = booklets.not-both-read mostCharacters mostCharacters text text′ (a .0) (a′ .0) (replies.read-back a) (replies.read-back a′)
 
 -- ---- the sums settle the report
 -- Two conditions, of one text or of two, each with room, that say one ship, table and weather, and whose entries have the same sum of masses and the same sum of moments with free surface moments, get the same report, character by character:

@@ -1,13 +1,13 @@
 -- What a run of `judge` with room leaves: one report for the whole, or that of each condition line; and so what the promises rest on.
 use mathlib.Core.Path.{_≡_, refl, ap, sym, _∙_}
 use mathlib.Core.List.{List}
-use mathlib.Core.Logic.{_↔_, _⊎_, inl, inr}
+use mathlib.Core.Logic.{_↔_, _≢_, _⊎_, inl, inr}
 use Prim.Native.Nat.{ℕ, _+_, _*_, _≤_, _<_}
 use native.Mathlib.Omega.{arith}
 use lib.ListN.{length, drop}
 use lib.Seq.{take-at, drop-at}
 use Rattle.rules.specs.Layout.{mostCharacters, Booklet}
-use Rattle.rules.specs.Outcome.{Ans, refused, got}
+use Rattle.rules.specs.Outcome.{Ans, refused, got, Unread}
 use Rattle.rules.specs.Report.{noJudgement, report, reportLength}
 use Rattle.rules.specs.Booklet.{readWhole}
 use Rattle.rules.specs.Apart.{BeginA3, AllowedWhole, lineAt, lineNumber}
@@ -33,7 +33,7 @@ module _ {t : List ℕ} where
   abbrev pub allowed : (b : Booklet) → readWhole mostCharacters t ≡ got b → AllowedWhole mostCharacters t
   allowed b e = let s = sound mostCharacters t b e in (b, s .0, s .1)
 
-  pub by-whole : {X : Type 0} → ((m l : ℕ) → (1 ≤ m) × (m ≤ 6) → readWhole mostCharacters t ≡ refused m l 0 → X) → (AllowedWhole mostCharacters t → X) → X
+  pub by-whole : {X : Type 0} → ((m l : ℕ) → Unread m → readWhole mostCharacters t ≡ refused m l 0 → X) → (AllowedWhole mostCharacters t → X) → X
   by-whole {X} f g = go (readWhole mostCharacters t) refl
     where
       go : (a : Ans Booklet) → readWhole mostCharacters t ≡ a → X
@@ -58,8 +58,8 @@ module _ {t before : List ℕ} {n : ℕ} {after : List ℕ} (run : Run t before 
         ap (drop reportLength) w ∙ drop-at (reportOf (refused m l o)) (drop reportLength before) reportLength (refusal-length m l o),
       )
 
-  refused-whole : (m l : ℕ) → (1 ≤ m) × (m ≤ 6) → readWhole mostCharacters t ≡ refused m l 0 → RefusedWhole t before n after
-  refused-whole m l h e = let s = whole-sent m l 0 e in rw (s .0) (record { line = l; refusal = e; from1to6 = h; reported = s .1; beyond = s .2 })
+  refused-whole : (m l : ℕ) → Unread m → readWhole mostCharacters t ≡ refused m l 0 → RefusedWhole t before n after
+  refused-whole m l h e = let s = whole-sent m l 0 e in rw (s .0) (record { line = l; refusal = e; unread = h; reported = s .1; beyond = s .2 })
 
   -- A report for each condition.
   module _ (a : AllowedWhole mostCharacters t) where
@@ -80,10 +80,10 @@ module _ {t before : List ℕ} {n : ℕ} {after : List ℕ} (run : Run t before 
     line-report k h = let B = begin-at (a .0 .conditions) k (a .1 .begin) h in record { tag = B .0; bytes = B .1; reported = report-at k h ∙ ap reportOf (answer-at (a .0) k h) }
 
   -- ---- one or the other
-  pub every : (n ≤ 8) × (RefusedWhole t before n after ⊎ EachAnswered t before n after)
+  pub every : (n ≤ 10) × (n ≢ 9) × (RefusedWhole t before n after ⊎ EachAnswered t before n after)
   every = by-whole
-      (λ m l h e. let s = whole-sent m l 0 e in (omega (arith, s .0), inl (refused-whole m l h e)))
-      (λ a. (let b = a .0 in let f = first-number (b .ship) (b .rows) (b .conditions) (2 + length (b .rows)) in omega (arith, numbered-first a), inr (answered-each a)))
+      (λ m l h e. let s = whole-sent m l 0 e in (omega (arith, s .0), omega (arith, s .0), inl (refused-whole m l h e)))
+      (λ a. let b = a .0 in let f = first-number (b .ship) (b .rows) (b .conditions) (2 + length (b .rows)) in let q : n ≤ 8 = omega (arith, numbered-first a) in (omega arith, omega arith, inr (answered-each a)))
 
   not-both : RefusedWhole t before n after → AllowedWhole mostCharacters t → ⊥
   not-both r a = refused-got (sym (r .refusal) ∙ read-back a)

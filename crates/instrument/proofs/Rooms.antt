@@ -152,11 +152,11 @@ pub sent-each : (b : Booklet) {m : ℕ} {t before after : List ℕ} {n k : ℕ} 
     → Gives m t before (firstNumber (answers b)) (reportLength * length (b .conditions)) (concat (map reportOf (answers b)) ++ drop (reportLength * length (b .conditions)) before) → Gives m t before n (reportLength * k) after
 sent-each b s e g = rw (s .0, s .1, e) g
 
--- Whatever the text and the buffer, the number is 9 at most, and no more bytes are sent than the buffer has.
-within-buffer : (most : ℕ) (t buffer : List ℕ) → (number most t buffer ≤ 9) × (bytesSent most t buffer ≤ length buffer)
+-- Whatever the text and the buffer, the number is 10 at most, and no more bytes are sent than the buffer has.
+within-buffer : (most : ℕ) (t buffer : List ℕ) → (number most t buffer ≤ 10) × (bytesSent most t buffer ≤ length buffer)
 within-buffer most t buffer = go (ltb (length buffer) (room most t)) refl
   where
-    answered : room most t ≤ length buffer → (a : Ans Booklet) → readWhole most t ≡ a → (number most t buffer ≤ 9) × (bytesSent most t buffer ≤ length buffer)
+    answered : room most t ≤ length buffer → (a : Ans Booklet) → readWhole most t ≡ a → (number most t buffer ≤ 10) × (bytesSent most t buffer ≤ length buffer)
     answered h (refused n l o) e =
         let g = whole-refused most t buffer h e in
         let r = readWhole-refusal most t .holds n l o e in
@@ -165,10 +165,10 @@ within-buffer most t buffer = go (ltb (length buffer) (room most t)) refl
         let g = whole-got most t buffer h b e in
         omega (arith, g .numbered, g .long, room-read most t b e, first-number (b .ship) (b .rows) (b .conditions) (2 + length (b .rows)))
 
-    go : (c : Bool) → ltb (length buffer) (room most t) ≡ c → (number most t buffer ≤ 9) × (bytesSent most t buffer ≤ length buffer)
+    go : (c : Bool) → ltb (length buffer) (room most t) ≡ c → (number most t buffer ≤ 10) × (bytesSent most t buffer ≤ length buffer)
     go true p = let g = without-room most t buffer (ltb-true _ _ p) in omega (arith, g .numbered, g .long)
     go false p = answered (ltb-false _ _ p) (readWhole most t) refl
 
 -- So of a reply of `judge_within`.
-pub reply-within : (limit : ℕ) (t before after : List ℕ) {n k : ℕ} → (n ≡ number (limited limit) t before) × ((k ≡ bytesSent (limited limit) t before) × (after ≡ written (limited limit) t before)) → (n ≤ 9) × (k ≤ length before)
+pub reply-within : (limit : ℕ) (t before after : List ℕ) {n k : ℕ} → (n ≡ number (limited limit) t before) × ((k ≡ bytesSent (limited limit) t before) × (after ≡ written (limited limit) t before)) → (n ≤ 10) × (k ≤ length before)
 reply-within limit t before after r = omega (arith, r .0, r .1 .0, within-buffer (limited limit) t before)

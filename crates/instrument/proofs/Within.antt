@@ -67,7 +67,7 @@ pub bytes-told : (t before : List ℕ) (n : ℕ) (after : List ℕ) → n ≡ nu
     × ((x : EachAnswered t before n after) → bytesSent mostCharacters t before ≡ reportLength * length (x .allowed .0 .conditions))
 bytes-told t before n after N W = (
   λ z. rooms.without-room mostCharacters t before (rooms.nine-iff-no-room mostCharacters t before .0 (sym N ∙ z)) .long,
-  λ x. rooms.whole-refused mostCharacters t before (enough (λ z. omega (arith, x .from1to6))) (x .refusal) .long,
+  λ x. rooms.whole-refused mostCharacters t before (enough (λ z. omega (arith, x .unread))) (x .refusal) .long,
   λ x.
       let b = x .allowed .0 in
       let f = rooms.first-number (b .ship) (b .rows) (b .conditions) (2 + length (b .rows)) in

@@ -6,7 +6,7 @@ use lib.ListN.{length, take, drop}
 use Rattle.rules.specs.Numbers.{digits}
 use Rattle.rules.specs.Text.{hex}
 use Rattle.rules.specs.Layout.{mostCharacters, Booklet}
-use Rattle.rules.specs.Outcome.{refused}
+use Rattle.rules.specs.Outcome.{refused, Unread}
 use Rattle.rules.specs.Report.{noJudgement, report, reportLength}
 use Rattle.rules.specs.Columns.{characters}
 use Rattle.rules.specs.Places.{Placed}
@@ -47,11 +47,11 @@ pub record RefusedAt (text : List ℕ) (b : Booklet) (k : ℕ) (r : List ℕ) : 
   pub fits : offset < conditionBytes
 
 -- ---- what is left in the buffer, with the number n
--- The text is refused for the whole, with this number from 1 to 6 and at this line: that is in the one report, and every byte beyond it is as it was.
+-- The text is refused for the whole, with this number, one of 1 to 6 or 10, and at this line: that is in the one report, and every byte beyond it is as it was.
 pub record RefusedWhole (text before : List ℕ) (n : ℕ) (after : List ℕ) : Type 0 where
   pub line : ℕ
   pub refusal : readWhole mostCharacters text ≡ refused n line 0
-  pub from1to6 : (1 ≤ n) × (n ≤ 6)
+  pub unread : Unread n
   pub reported : reportIn 0 after ≡ report n line 0 noJudgement
   pub beyond : drop reportLength after ≡ drop reportLength before
 
