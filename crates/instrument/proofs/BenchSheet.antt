@@ -17,6 +17,7 @@ use Rattle.rules.proofs.bench.Cases.{lines, refusal}
 use Rattle.rules.proofs.bench.Bench.{ship, row1, row2, with, P1, P1-output}
 use Rattle.rules.proofs.bench.CargoTank.{tanker}
 use Rattle.rules.proofs.bench.TimberDeck.{tender, coaster}
+use Rattle.rules.proofs.bench.MistypedRow.{digitMissing, above400, below400}
 use Rattle.instrument.specs.Reported.{reportIn}
 use Rattle.instrument.proofs.Replies.{whole-sent}
 use Rattle.instrument.proofs.OfOne.{isOne, one-read, room-one, sent-one}
@@ -51,23 +52,32 @@ pub timbers-one : (isOne (readWhole mostCharacters (tender "C1")) ≡ true) × (
 unfolding taken readWhole
 timbers-one = (refl, refl, refl, refl)
 
+pub even-one : (isOne (readWhole mostCharacters above400) ≡ true) × (isOne (readWhole mostCharacters below400) ≡ true)
+unfolding taken readWhole
+even-one = (refl, refl)
+
 -- The first is judged, and so are these.
 pub judged-0 : (numberOf (answered P1) ≡ 0) × (numberOf (answered (tanker "C3")) ≡ 0) × (numberOf (answered (tanker "C5")) ≡ 0)
     × (numberOf (answered (tender "C1")) ≡ 0) × (numberOf (answered (tender "C6")) ≡ 0) × (numberOf (answered (coaster "C1")) ≡ 0) × (numberOf (answered (coaster "C6")) ≡ 0)
+    × (numberOf (answered above400) ≡ 0) × (numberOf (answered below400) ≡ 0)
 unfolding answered
-judged-0 = (refl, refl, refl, refl, refl, refl, refl)
+judged-0 = (refl, refl, refl, refl, refl, refl, refl, refl, refl)
 
--- P12, the empty text, is refused for the whole.
-empty-whole : (readWhole mostCharacters [] ≡ refused 5 0 0) × (room mostCharacters [] ≡ reportLength)
+-- P12, the empty text, is refused for the whole, and so is a table with a digit missing.
+pub empty-whole : (readWhole mostCharacters [] ≡ refused 5 0 0) × (room mostCharacters [] ≡ reportLength)
 unfolding taken readWhole room
 empty-whole = (refl, refl)
 
-pub empty-sent : {r : List ℕ} → answered [] ≡ refused 5 0 0 → reportOf (answered []) ≡ r
-    → (before : List ℕ) {n : ℕ} {after : List ℕ} → n ≡ number mostCharacters [] before → after ≡ written mostCharacters [] before → reportLength ≤ length before → (n ≡ 5) × (reportIn 0 after ≡ r)
+pub mistyped-whole : (readWhole mostCharacters digitMissing ≡ refused 10 3 0) × (room mostCharacters digitMissing ≡ reportLength)
+unfolding taken readWhole room
+mistyped-whole = (refl, refl)
+
+pub refusal-sent : (t : List ℕ) {m l : ℕ} {r : List ℕ} → (readWhole mostCharacters t ≡ refused m l 0) × (room mostCharacters t ≡ reportLength) → answered t ≡ refused m l 0 → reportOf (answered t) ≡ r
+    → (before : List ℕ) {n : ℕ} {after : List ℕ} → n ≡ number mostCharacters t before → after ≡ written mostCharacters t before → reportLength ≤ length before → (n ≡ m) × (reportIn 0 after ≡ r)
 unfolding report
-empty-sent e f before N W h =
-    let s = whole-sent (record { numbered = N; left = W; enough = omega (arith, empty-whole .1) }) 5 0 0 (empty-whole .0) in
-    (s .0, s .1 ∙ sym (ap reportOf e ∙ report-refused 5 0 0) ∙ f)
+refusal-sent t {m} {l} w e f before N W h =
+    let s = whole-sent (record { numbered = N; left = W; enough = omega (arith, w .1) }) m l 0 (w .0) in
+    (s .0, s .1 ∙ sym (ap reportOf e ∙ report-refused m l 0) ∙ f)
 
 -- ---- a booklet of three
 -- P1's ship and rows, its condition, that of P13 and that of P10.

@@ -42,6 +42,7 @@ use Rattle.rules.proofs.bench.Cases.{refusal}
 use Rattle.rules.proofs.bench.Bench.{P1, P1-output, bench-holds}
 use Rattle.rules.proofs.bench.CargoTank.{tanker, cargo-output, planner-holds}
 use Rattle.rules.proofs.bench.TimberDeck.{tender, tender-output, tender-timber-output, coaster, coaster-output, coaster-timber-output, timbers-hold}
+use Rattle.rules.proofs.bench.MistypedRow.{digitMissing, above400, below400, mistyped-hold}
 use Rattle.rules.proofs.bench.Regrouped.{regrouped, asOne, asGroup, reads-as, same-sums, two-texts}
 use Rattle.instrument.specs.Reported.{reportIn, numberIn, HasNumber, RefusedLine, SameButLine, RefusedAt, RefusedWhole, EachAnswered}
 use Rattle.instrument.specs.Faults.{NoLineAt, WholeOverrunAt, MisplacedAt, OwedAt, SlipAt, LineOverrunAt}
@@ -389,6 +390,9 @@ Sends text m r = (before : List ℕ) (n : ℕ) (after : List ℕ) → Judges tex
 sends : (text : List ℕ) {m : ℕ} {r : List ℕ} → ones.isOne (readWhole mostCharacters text) ≡ true → numberOf (answered text) ≡ m → reportOf (answered text) ≡ r → Sends text m r
 sends text one e f before n after run room = let q = contract text before n after .0 run in sheet.one-sent text one e f before (q .0) (q .1) room
 
+refuses : (text : List ℕ) {m l : ℕ} {r : List ℕ} → (readWhole mostCharacters text ≡ refused m l 0) × (answers.room mostCharacters text ≡ reportLength) → answered text ≡ refused m l 0 → reportOf (answered text) ≡ r → Sends text m r
+refuses text w e f before n after run room = let q = contract text before n after .0 run in sheet.refusal-sent text w e f before (q .0) (q .1) room
+
 -- The texts of the bench sheet, P1 and P10 to P13: each gets its number and its whole report. (P2 to P9 are numbers on the way to P1's; the rules have them.)
 pub bench-sheet : Sends P1 0 P1-output × Sends P10 2 (refusal "D100650200040012") × Sends P11 3 (refusal "D100650300040012") × Sends [] 5 (refusal "D100650500000000") × Sends P13 7 (refusal "D100650700000000")
 bench-sheet =
@@ -397,7 +401,7 @@ bench-sheet =
       sends P1 (sheet.sheet-one .0) (sheet.judged-0 .0) (b .0),
       sends P10 (sheet.sheet-one .1) (ap numberOf (r .0 .0)) (r .0 .1),
       sends P11 (sheet.sheet-one .2) (ap numberOf (r .1 .0 .0)) (r .1 .0 .1),
-      λ before n after run room. let q = contract [] before n after .0 run in sheet.empty-sent (r .1 .1 .0 .0) (r .1 .1 .0 .1) before (q .0) (q .1) room,
+      refuses [] sheet.empty-whole (r .1 .1 .0 .0) (r .1 .1 .0 .1),
       sends P13 (sheet.sheet-one .3) (ap numberOf (r .1 .1 .1 .0 .0)) (r .1 .1 .1 .0 .1),
     )
 
@@ -417,6 +421,14 @@ neither-set-covers = (
   sends (tender "C6") (sheet.timbers-one .1) (sheet.judged-0 .4) (timbers-hold .1 .1 .0),
   sends (coaster "C1") (sheet.timbers-one .2) (sheet.judged-0 .5) (timbers-hold .1 .1 .1 .0),
   sends (coaster "C6") (sheet.timbers-one .3) (sheet.judged-0 .6) (timbers-hold .1 .1 .1 .1 .0),
+)
+
+-- A digit missing in P1's second row, 230 for 2,300 at 30 degrees: 10 in line 3. With 2,462 there and with 2,062, which differ by 400 and lie 400 on either side of the neighbours, the text is judged: `not-both-read` says no more than holds.
+pub digit-missing : Sends digitMissing 10 (refusal "D100650A00030000") × Sends above400 0 P1-output × Sends below400 0 P1-output
+digit-missing = (
+  refuses digitMissing sheet.mistyped-whole (mistyped-hold .0 .0) (mistyped-hold .0 .1),
+  sends above400 (sheet.even-one .0) (sheet.judged-0 .7) (mistyped-hold .1 .0),
+  sends below400 (sheet.even-one .1) (sheet.judged-0 .8) (mistyped-hold .1 .1 .0),
 )
 
 -- ---- how much room

@@ -4,6 +4,7 @@ pub mod Bench
 pub mod Booklet
 pub mod Page
 pub mod Slips
+pub mod MistypedRow
 pub mod Drawing
 pub mod Regrouped
 pub mod CargoTank

@@ -5,23 +5,17 @@ use borrow.Author.Needs.{needs}
 use Rattle.bench.proofs.print_reply.Statement.{statement}
 use Rattle.bench.proofs.print_reply.Tie as tie
 
-add-t5 : tie.Need-add-t5
-add-t5 c = search needs
-
-slice-aggregate-write-all : tie.Need-slice-aggregate-write-all
-slice-aggregate-write-all c = search needs
-
-write-all-requires : tie.Need-write-all-requires
-write-all-requires c κs = search needs
+print-number-requires : tie.Need-print-number-requires
+print-number-requires c κs = search needs
 
 returns : tie.Need-returns
 returns c = search needs
 
-slice-aggregate-write-all-2 : tie.Need-slice-aggregate-write-all-2
-slice-aggregate-write-all-2 c = sym (length-take-le _ _ (search needs))
+slice-aggregate-write-all : tie.Need-slice-aggregate-write-all
+slice-aggregate-write-all c = sym (length-take-le _ _ (search needs))
 
-write-all-requires-2 : tie.Need-write-all-requires-2
-write-all-requires-2 c κs = search needs
+write-all-requires : tie.Need-write-all-requires
+write-all-requires c κs = search needs
 
 returns-2 : tie.Need-returns-2
 returns-2 c = search needs
@@ -30,10 +24,8 @@ pub print-reply-spec : {M : Type 1} → statement M
 print-reply-spec =
     tie.close
     (tie.spec
-    add-t5
+    print-number-requires
+    returns
     slice-aggregate-write-all
     write-all-requires
-    returns
-    slice-aggregate-write-all-2
-    write-all-requires-2
     returns-2)
