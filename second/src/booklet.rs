@@ -55,6 +55,9 @@ impl Reading {
         if !self.rows.last().is_none_or(rises) {
             return line.refuse(6, frame.offset);
         }
+        if !row.smooth() {
+            return line.refuse(10, frame.offset);
+        }
         self.rows.push(row);
         Ok(())
     }

@@ -259,3 +259,71 @@ fn the_shown_answer_is_a_number_and_the_reports() {
     call.room = 417;
     assert_eq!(answer(&call).shown(), "9\n");
 }
+
+/// P1's first row, or its second, with its KN at 30 degrees raised so that it
+/// bends by 400 or by 401. P1's own three values there are 1,930, 2,300 and
+/// 2,594: 76 up.
+fn bent(row: &str, bend: i128) -> String {
+    let raised = 2_300 + (bend - 76 + 1) / 2;
+    let behind = 2_594 + (bend - 76) % 2;
+    row.replace("08FC0A22", &format!("{raised:04X}{behind:04X}"))
+}
+
+/// 10 at each row, at its line and offset 0, in decimal in the answer.
+#[test]
+fn a_slip_in_a_row() {
+    let sound = [SHIP, &bent(ROW_1, 400), &bent(ROW_2, 400), CONDITION].concat();
+    assert_eq!(said(&call(&sound)).0, 0);
+    let first = [SHIP, &bent(ROW_1, 401), ROW_2, CONDITION].concat();
+    assert_whole(&first, (10, 2, 0));
+    let second = [SHIP, ROW_1, &bent(ROW_2, 401), CONDITION, TWO].concat();
+    assert_whole(&second, (10, 3, 0));
+    let shown = answer(&call(&second)).shown();
+    let start = format!(
+        "10\nD100650A00030000{}{}\n",
+        "03".repeat(8),
+        "0".repeat(176)
+    );
+    assert_eq!(shown, start);
+}
+
+/// At a row 2, 4, 3, 6, a W that does not rise too, and then 10; then the
+/// lines behind it.
+#[test]
+fn where_10_stands_in_the_order() {
+    let slip = bent(ROW_2, 401);
+    let fixed = |row: &str| [SHIP, ROW_1, row, TWO, "C1\n"].concat();
+    assert_whole(&fixed(&slip), (10, 3, 0));
+    for (old, new, number) in [
+        ("A20022", "A20023", 2),
+        ("A20022", "A10022", 4),
+        ("A20022", "A20021", 3),
+        ("186A001130", "186A000001", 6),
+        ("00186A00", "00155CC0", 6),
+    ] {
+        assert_whole(&fixed(&slip.replacen(old, new, 1)), (number, 3, 0));
+    }
+    let low = ROW_2.replace("00186A00", "00155CC0");
+    let next = [SHIP, ROW_1, &slip, &low, CONDITION].concat();
+    assert_whole(&next, (10, 3, 0));
+    let before = [SHIP, &bent(ROW_1, 401), &low, CONDITION].concat();
+    assert_whole(&before, (10, 2, 0));
+    let ship = SHIP.replace("A1000D", "A1000C");
+    assert_whole(&[&ship, ROW_1, &slip, CONDITION].concat(), (3, 1, 0));
+    assert_whole(&(fixed(&slip) + "G\n"), (1, 6, 0));
+    assert_whole(&(fixed(&slip) + &"A3\n".repeat(24)), (5, 29, 0));
+    assert_whole(&[SHIP, ROW_1, &slip].concat(), (10, 3, 0));
+}
+
+/// Neither 9 is given way to.
+#[test]
+fn a_slip_without_room() {
+    let slip = [SHIP, ROW_1, &bent(ROW_2, 401), CONDITION, CONDITION].concat();
+    for (room, number) in [(0, 9), (208, 9), (209, 9), (417, 9), (418, 10)] {
+        let call = Call {
+            room,
+            ..call(&slip)
+        };
+        assert_eq!(answer(&call).number, number);
+    }
+}
