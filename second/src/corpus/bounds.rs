@@ -3,8 +3,10 @@
 
 use super::cases::Cases;
 use super::dice::Dice;
-use super::draft::{item, nested, tank, Draft};
+use super::draft::{item, nested, tank, Block, Draft};
+use super::mend::{mend, GREATEST, OPEN};
 use super::vessel::{self, Vessel};
+use crate::book::Row;
 use crate::layout::{fields, Field, A1, A2, C1, C2, C3};
 
 pub fn add(cases: &mut Cases) {
@@ -67,7 +69,29 @@ fn at_bound(dice: &mut Dice, tag: u8, index: usize, value: i128) -> Vec<u8> {
         _ => dice.pick(&paths),
     };
     draft.at(&path).values[index] = value;
+    if tag == A2 && index > KN_FIELDS {
+        smooth_around(draft.at(&path), index, value);
+    }
     draft.text()
+}
+
+/// Where the KN values of a row begin.
+const KN_FIELDS: usize = 3;
+
+/// Makes a row smooth with this value in its place, where there is such a row.
+/// There is none with 30,000 before 60 degrees, which is refused.
+fn smooth_around(block: &mut Block, index: usize, value: i128) {
+    let mut row = Row {
+        displacement: block.values[0],
+        draught: block.values[1],
+        km: block.values[2],
+        kn: block.values[KN_FIELDS..].to_vec(),
+    };
+    let mut bounds = OPEN;
+    bounds[index - KN_FIELDS] = (value, value);
+    if mend(&mut row, &bounds) {
+        block.values[KN_FIELDS..].copy_from_slice(&row.kn);
+    }
 }
 
 /// W of a row one under, equal to and one over the row before it.
@@ -115,7 +139,7 @@ fn add_tanks(cases: &mut Cases) {
 }
 
 /// Every field of every block at the same end of its limits, as far as the
-/// rows' rising and the sum of the masses let them.
+/// rows' rising, the sum of the masses and smooth rows let them.
 pub fn all_at(dice: &mut Dice, end: End) -> Draft {
     let (_, mut draft) = base(dice);
     draft.condition().inner.truncate(2);
@@ -124,6 +148,12 @@ pub fn all_at(dice: &mut Dice, end: End) -> Draft {
         let ends: Vec<i128> = fields(tag).unwrap_or_default().iter().map(end).collect();
         for path in draft.paths_of(tag) {
             draft.at(&path).values = ends.clone();
+        }
+    }
+    for path in draft.paths_of(A2) {
+        let values = &mut draft.at(&path).values[KN_FIELDS..];
+        for (kn, greatest) in values.iter_mut().zip(GREATEST) {
+            *kn = greatest.min(*kn);
         }
     }
     let displacement = draft.frames[1].values[0];

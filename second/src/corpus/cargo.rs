@@ -309,8 +309,7 @@ pub fn turned(dice: &mut Dice, set: &'static CriteriaSet, criterion: usize) -> (
         let mut vessel = vessel::judged(dice);
         vessel.criteria = set;
         if criterion == 5 {
-            crest(&mut vessel, 4);
-            crest(&mut vessel, 5);
+            crest(&mut vessel, &[5, 4]);
         }
         if criterion == 8 {
             blow(&mut vessel, dice.between(40, 160));

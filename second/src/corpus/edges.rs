@@ -2,6 +2,7 @@
 
 use super::cases::Cases;
 use super::dice::Dice;
+use super::mend::{mend, Bounds, OPEN};
 use super::solve::{area, lever, Search};
 use super::vessel::{self, Vessel};
 use crate::curve::SINES;
@@ -10,7 +11,6 @@ use crate::sets::CODE;
 const TO_30: Search = Search {
     flooding: (230, 330),
     weights: |flooding| area(0, flooding.min(300)),
-    from: 1,
     figure: 3,
     prepare: |_| (),
 };
@@ -25,7 +25,6 @@ const TO_15: Search = Search {
 const FROM_30: Search = Search {
     flooding: (330, 430),
     weights: |flooding| area(300, flooding.min(400)),
-    from: 6,
     figure: 4,
     prepare: |_| (),
 };
@@ -33,7 +32,6 @@ const FROM_30: Search = Search {
 pub const TO_40: Search = Search {
     flooding: (310, 430),
     weights: |flooding| area(0, flooding.min(400)),
-    from: 1,
     figure: 5,
     prepare: |_| (),
 };
@@ -41,17 +39,17 @@ pub const TO_40: Search = Search {
 const GREATEST: Search = Search {
     flooding: (300, 399),
     weights: lever,
-    from: 1,
     figure: 6,
     prepare: lowered,
 };
 
 /// Levers that rise past 0.20 m between 35 and 40 degrees.
 fn lowered(vessel: &mut Vessel) {
+    let levers = [0, 20, 40, 60, 80, 100, 120, 150, 260, 300, 290, 240, 170];
     let kg = vessel.kg;
-    let row = vessel.laden();
-    for (station, lever) in [(6, 120), (7, 150), (8, 260)] {
-        row.kn[station] = kg * SINES[station] / 100_000 + lever;
+    let stations = vessel.laden().kn.iter_mut().zip(SINES);
+    for ((kn, sine), lever) in stations.zip(levers) {
+        *kn = kg * sine / 100_000 + lever;
     }
 }
 
@@ -93,15 +91,34 @@ pub fn solved(dice: &mut Dice, search: &Search, wanted: i128) -> Vessel {
     vessel
 }
 
-/// Raises KN at a station until its lever is the greatest of all.
-pub fn crest(vessel: &mut Vessel, station: usize) {
+/// Makes the lever at a station the greatest of all, with those at further
+/// stations equal to it or less than a millimetre under it: as high as the
+/// greatest was, or as high as a smooth row can have them.
+pub fn crest(vessel: &mut Vessel, stations: &[usize]) {
     let kg = vessel.kg;
-    let kn = &mut vessel.laden().kn;
-    let highest = (0..13)
-        .map(|at| 100_000 * kn[at] - kg * SINES[at])
-        .max()
-        .unwrap_or(0);
-    kn[station] = (highest + kg * SINES[station]) / 100_000 + 2;
+    let row = vessel.laden();
+    let levers = (0..13).map(|at| 100_000 * row.kn[at] - kg * SINES[at]);
+    let mut top = levers.max().unwrap_or(0) + 200_000;
+    while top > 200_000 && !mend(row, &crested(kg, stations, top)) {
+        top = top * 9 / 10;
+    }
+}
+
+/// Bounds in which the levers at some stations are so high, and all others a
+/// millimetre lower or more.
+fn crested(kg: i128, stations: &[usize], top: i128) -> Bounds {
+    let first = (top + kg * SINES[stations[0]]) / 100_000;
+    let level = 100_000 * first - kg * SINES[stations[0]];
+    let mut bounds = OPEN;
+    for station in 1..13 {
+        let as_high = (level + kg * SINES[station]).div_euclid(100_000);
+        bounds[station] = if stations.contains(&station) {
+            (as_high, as_high)
+        } else {
+            (0, (as_high - 2).clamp(0, 30_000))
+        };
+    }
+    bounds
 }
 
 /// Angles of the greatest lever at 250 and on both sides of it, by a crest
@@ -111,7 +128,7 @@ fn add_angles(cases: &mut Cases) {
         cases.add(format!("crest at station {station}"), move |dice| {
             let mut vessel = vessel::judged(dice);
             vessel.weather.flooding = 600;
-            crest(&mut vessel, station);
+            crest(&mut vessel, &[station]);
             vessel.text(dice)
         });
     }
@@ -120,7 +137,7 @@ fn add_angles(cases: &mut Cases) {
         cases.add(name, move |dice| {
             let mut vessel = vessel::judged(dice);
             vessel.weather.flooding = flooding;
-            crest(&mut vessel, station);
+            crest(&mut vessel, &[station]);
             vessel.text(dice)
         });
     }
@@ -132,9 +149,7 @@ pub fn tied(dice: &mut Dice, first: usize, second: usize, kg: i128) -> Vessel {
     let mut vessel = vessel::judged(dice);
     vessel.raise_to(kg);
     vessel.weather.flooding = 600;
-    crest(&mut vessel, first);
-    let row = vessel.laden();
-    row.kn[second] = row.kn[first] + kg * (SINES[second] - SINES[first]) / 100_000;
+    crest(&mut vessel, &[first, second]);
     vessel
 }
 
@@ -144,7 +159,7 @@ fn add_ties(cases: &mut Cases) {
         (3, 5, 10_000),
         (2, 6, 20_000),
         (5, 7, 12_500),
-        (6, 7, 50_000),
+        (6, 7, 0),
         (5, 6, 0),
         (4, 5, 0),
     ] {

@@ -13,6 +13,7 @@ mod edges;
 mod faults;
 mod garble;
 mod load;
+mod mend;
 mod order;
 mod rolls;
 mod rows;

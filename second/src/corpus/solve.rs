@@ -4,6 +4,7 @@
 
 use super::dice::Dice;
 use super::vessel::Vessel;
+use crate::book::Row;
 use crate::criteria::Judgement;
 use crate::curve::{Curve, SINES};
 use crate::instrument::judge_text;
@@ -82,43 +83,66 @@ fn kn_sum(weights: &Weights, kn: &[i128], kg: i128, figure: i128, from: usize) -
 }
 
 /// Changes KN from station `from` on so that the weighted sum of g is the
-/// figure. False if it cannot be done within KN's limits.
-pub fn fit(kn: &mut [i128], weights: &Weights, kg: i128, figure: i128, from: usize) -> bool {
-    let Some(mut missing) = kn_sum(weights, kn, kg, figure, from) else {
+/// figure: by a straight slope, which bends the row at its beginning alone,
+/// and by little at single stations for the rest. False if it cannot be done
+/// with a smooth row within KN's limits.
+pub fn fit(row: &mut Row, weights: &Weights, kg: i128, figure: i128, from: usize) -> bool {
+    let Some(missing) = kn_sum(weights, &row.kn, kg, figure, from) else {
         return false;
     };
-    let mut stations: Vec<usize> = (from..13).filter(|&at| weights[at] > 0).collect();
-    let total: i128 = stations.iter().map(|&at| weights[at]).sum();
-    if total == 0 {
+    let run = |station: usize| (station + 1 - from) as i128;
+    let total: i128 = (from..13).map(|at| weights[at] * run(at)).sum();
+    if total <= 0 {
         return false;
     }
-    for &station in &stations {
-        kn[station] += missing / total;
+    let slope = (missing + total / 2).div_euclid(total);
+    for station in from..13 {
+        row.kn[station] += slope * run(station);
     }
-    missing %= total;
-    stations.sort_by_key(|&station| -weights[station]);
-    settle(kn, weights, &stations, missing) && kn.iter().all(|kn| (0..=MOST_KN).contains(kn))
+    settle(&mut row.kn, weights, from, missing - slope * total)
+        && row.kn.iter().all(|kn| (0..=MOST_KN).contains(kn))
+        && row.smooth()
 }
 
-/// Puts what is still missing on the station of the greatest weight, after
-/// the two of the least have taken what that weight does not divide.
-fn settle(kn: &mut [i128], weights: &Weights, stations: &[usize], missing: i128) -> bool {
-    let [.., small] = *stations else {
+/// The most that a single station is changed by.
+const MOST_CHANGE: i128 = 60;
+
+/// Spreads what is still missing over the stations of the greatest weight,
+/// after the two of the least have taken what that weight does not divide.
+fn settle(kn: &mut [i128], weights: &Weights, from: usize, missing: i128) -> bool {
+    let mut stations: Vec<usize> = (from..13).filter(|&at| weights[at] > 0).collect();
+    stations.sort_by_key(|&at| weights[at]);
+    let Some(&last) = stations.last() else {
         return false;
     };
-    let (big, middle) = (stations[0], stations[stations.len().saturating_sub(2)]);
-    for middles in 0..50 {
-        for smalls in -600..=600 {
-            let rest = missing - middles * weights[middle] - smalls * weights[small];
-            if rest % weights[big] == 0 {
-                kn[big] += rest / weights[big];
-                kn[middle] += middles;
-                kn[small] += smalls;
-                return true;
-            }
-        }
+    let greatest = weights[last];
+    let (heavy, light): (Vec<usize>, Vec<usize>) = stations
+        .into_iter()
+        .partition(|&at| weights[at] == greatest);
+    let weight = |number: usize| light.get(number).map_or(0, |&at| weights[at]);
+    let rest = |(one, other): (i128, i128)| missing - one * weight(0) - other * weight(1);
+    let mut changes = (0..=MOST_CHANGE).flat_map(|reach| ring(reach, light.len()));
+    let Some(found) = changes.find(|&change| rest(change) % greatest == 0) else {
+        return false;
+    };
+    for (&station, change) in light.iter().zip([found.0, found.1]) {
+        kn[station] += change;
     }
-    false
+    let (shares, count) = (rest(found) / greatest, heavy.len() as i128);
+    for (number, station) in (0..).zip(heavy) {
+        kn[station] += (shares + number).div_euclid(count);
+    }
+    true
+}
+
+/// The changes of two stations of which the greater is so great, or of one,
+/// or of none.
+fn ring(reach: i128, stations: usize) -> Vec<(i128, i128)> {
+    let along = |used: bool| if used { -reach..=reach } else { 0..=0 };
+    let ones = along(stations > 0);
+    ones.flat_map(|one| along(stations > 1).map(move |other| (one, other)))
+        .filter(|(one, other)| one.abs().max(other.abs()) == reach)
+        .collect()
 }
 
 /// A vessel whose figure comes out as wanted: KG and the flooding angle are
@@ -126,7 +150,6 @@ fn settle(kn: &mut [i128], weights: &Weights, stations: &[usize], missing: i128)
 pub struct Search {
     pub flooding: (i128, i128),
     pub weights: fn(i128) -> Weights,
-    pub from: usize,
     pub figure: usize,
     /// What is done to the vessel once its KG is set.
     pub prepare: fn(&mut Vessel),
@@ -155,7 +178,7 @@ impl Search {
             vessel.raise_to(kg);
             vessel.weather.flooding = flooding;
             (self.prepare)(&mut vessel);
-            if fit(&mut vessel.laden().kn, &weights, kg, wanted, self.from)
+            if fit(vessel.laden(), &weights, kg, wanted, 1)
                 && figures(&vessel).is_some_and(|judged| judged.figures[self.figure] == wanted)
             {
                 return Some(vessel);

@@ -3,6 +3,7 @@
 
 use super::dice::Dice;
 use super::draft::{self, Block, Draft};
+use super::mend::{mend, OPEN};
 use crate::book::{Row, Ship, Weather};
 use crate::curve::SINES;
 use crate::sets::{CriteriaSet, CODE, SETS};
@@ -172,13 +173,14 @@ fn rows(dice: &mut Dice, ship: &Ship, full: (i128, i128), count: usize) -> Vec<R
             let here = (draught * (15 + 85 * carried / displacement) / 100).clamp(500, 30_000);
             let metacentre = ship.breadth * ship.breadth * spread / (1_200 * here);
             let km = (here * 53 / 100 + metacentre).min(60_000);
-            let kn = kn_of(km, &form, amplitude);
-            Row {
+            let mut row = Row {
                 displacement: carried.clamp(100_000, 600_000_000),
                 draught: here,
                 km,
-                kn,
-            }
+                kn: kn_of(km, &form, amplitude),
+            };
+            mend(&mut row, &OPEN);
+            row
         })
         .collect()
 }

@@ -4,7 +4,7 @@
 
 use super::cases::Cases;
 use super::dice::Dice;
-use super::edges::crest;
+use super::mend::{mend, OPEN};
 use super::solve::{area, figures, fit, lever, sine_curve, sine_sum};
 use super::vessel::{self, Vessel};
 use crate::criteria::{Gust, Wind};
@@ -158,13 +158,8 @@ fn exact_at(base: &Vessel, t: i128) -> Option<(Vessel, i128)> {
         let mut vessel = base.clone();
         vessel.kg = kg;
         let millimetres = sail(&vessel)?.curve.y(t) / Y_PER_MILLIMETRE;
-        let fits = fit(
-            &mut vessel.laden().kn,
-            &weights,
-            kg,
-            millimetres * Y_PER_MILLIMETRE,
-            1,
-        );
+        let figure = millimetres * Y_PER_MILLIMETRE;
+        let fits = fit(vessel.laden(), &weights, kg, figure, 1);
         if fits && blow(&mut vessel, millimetres) && sail(&vessel)?.wind.phi0 == Some(t) {
             return Some((vessel, millimetres));
         }
@@ -235,30 +230,54 @@ fn add_ends(cases: &mut Cases) {
 
 /// Curves that fall under the gust lever and rise again, or stay under it.
 fn add_dips(cases: &mut Cases) {
-    for (dip, again) in [
-        (4, true),
-        (6, true),
-        (7, false),
-        (9, true),
-        (10, false),
-        (11, true),
-    ] {
+    for (dip, again) in DIPS {
         cases.add(
             format!("dip at station {dip}, again {again}"),
-            move |dice| {
-                let mut vessel = vessel::judged(dice);
-                vessel.weather.flooding = dice.pick(&[500, 550, 600]);
-                crest(&mut vessel, dip - 1);
-                let kg = vessel.kg;
-                let last = if again { dip } else { 12 };
-                let kn = &mut vessel.laden().kn[dip..=last];
-                for (kn, sine) in kn.iter_mut().zip(&SINES[dip..]) {
-                    *kn = (kg * sine / 100_000 + dice.between(-30, 30)).clamp(0, 30_000);
-                }
-                vessel.text(dice)
-            },
+            move |dice| dipped(dice, dip, again).text(dice),
         );
     }
+}
+
+/// The station of each dip, and whether the curve rises again behind it.
+pub const DIPS: [(usize, bool); 6] = [
+    (4, true),
+    (6, true),
+    (7, false),
+    (9, true),
+    (10, false),
+    (11, true),
+];
+
+/// A vessel whose levers lie around 0 at a station, or from there on, and
+/// above the gust lever beside it.
+fn dipped(dice: &mut Dice, dip: usize, again: bool) -> Vessel {
+    let mut vessel = vessel::judged(dice);
+    for _ in 0..TRIES {
+        vessel.weather.flooding = dice.pick(&[500, 550, 600]);
+        let blows = blow(&mut vessel, dice.between(20, 60));
+        let Some(Sailing { wind, .. }) = sail(&vessel) else {
+            continue;
+        };
+        let high = wind.gust_lever + 20;
+        let kg = vessel.kg;
+        let mut bounds = OPEN;
+        for (station, bound) in bounds.iter_mut().enumerate().skip(1) {
+            let upright = kg * SINES[station] / 100_000;
+            let beside = station + 1 == dip || (again && station == dip + 1);
+            if beside {
+                *bound = (upright + high, 30_000);
+            }
+            if station == dip || (station > dip && !again) {
+                let lever = dice.between(-30, 30);
+                *bound = (upright + lever, upright + lever);
+            }
+        }
+        if blows && mend(vessel.laden(), &bounds) {
+            return vessel;
+        }
+        vessel = vessel::judged(dice);
+    }
+    vessel
 }
 
 /// The strongest wind whose net area is not below 0.
@@ -306,7 +325,7 @@ fn net_at(base: &Vessel, kg: i128, wanted: i128, sines: &Curve) -> Option<Vessel
     for end in (350..=500).filter(reachable) {
         let mut tried = vessel.clone();
         tried.weather.flooding = end;
-        let fits = fit(&mut tried.laden().kn, &area(start, end), kg, whole(end), 5);
+        let fits = fit(tried.laden(), &area(start, end), kg, whole(end), 5);
         let gust = if fits {
             sail(&tried).and_then(|sailing| sailing.gust)
         } else {

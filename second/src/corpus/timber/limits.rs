@@ -63,7 +63,6 @@ const FLOODINGS: [i128; 14] = [
 const LATE: Search = Search {
     flooding: (300, 399),
     weights: lever,
-    from: 1,
     figure: 6,
     prepare: |vessel| {
         let levers = [0, 25, 50, 80, 110, 140, 170, 200, 320, 330, 300, 250, 200];
@@ -127,7 +126,7 @@ fn add_crests(cases: &mut Cases) {
         add_either(cases, &name, move |dice| {
             let mut vessel = vessel::judged(dice);
             vessel.weather.flooding = flooding;
-            crest(&mut vessel, station);
+            crest(&mut vessel, &[station]);
             vessel
         });
     }
