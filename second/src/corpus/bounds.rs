@@ -5,6 +5,7 @@ use super::cases::Cases;
 use super::dice::Dice;
 use super::draft::{item, nested, tank, Block, Draft};
 use super::mend::{mend, GREATEST, OPEN};
+use super::slips::FIRST_KN;
 use super::vessel::{self, Vessel};
 use crate::book::Row;
 use crate::layout::{fields, Field, A1, A2, C1, C2, C3};
@@ -69,14 +70,11 @@ fn at_bound(dice: &mut Dice, tag: u8, index: usize, value: i128) -> Vec<u8> {
         _ => dice.pick(&paths),
     };
     draft.at(&path).values[index] = value;
-    if tag == A2 && index > KN_FIELDS {
+    if tag == A2 && index > FIRST_KN {
         smooth_around(draft.at(&path), index, value);
     }
     draft.text()
 }
-
-/// Where the KN values of a row begin.
-const KN_FIELDS: usize = 3;
 
 /// Makes a row smooth with this value in its place, where there is such a row.
 /// There is none with 30,000 before 60 degrees, which is refused.
@@ -85,12 +83,12 @@ fn smooth_around(block: &mut Block, index: usize, value: i128) {
         displacement: block.values[0],
         draught: block.values[1],
         km: block.values[2],
-        kn: block.values[KN_FIELDS..].to_vec(),
+        kn: block.values[FIRST_KN..].to_vec(),
     };
     let mut bounds = OPEN;
-    bounds[index - KN_FIELDS] = (value, value);
+    bounds[index - FIRST_KN] = (value, value);
     if mend(&mut row, &bounds) {
-        block.values[KN_FIELDS..].copy_from_slice(&row.kn);
+        block.values[FIRST_KN..].copy_from_slice(&row.kn);
     }
 }
 
@@ -151,7 +149,7 @@ pub fn all_at(dice: &mut Dice, end: End) -> Draft {
         }
     }
     for path in draft.paths_of(A2) {
-        let values = &mut draft.at(&path).values[KN_FIELDS..];
+        let values = &mut draft.at(&path).values[FIRST_KN..];
         for (kn, greatest) in values.iter_mut().zip(GREATEST) {
             *kn = greatest.min(*kn);
         }

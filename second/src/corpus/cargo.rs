@@ -162,7 +162,9 @@ fn add_counts(cases: &mut Cases) {
         (CARGO, ITEM, 201),
     ] {
         let name = format!("{} as entry {count} behind {}", last.0, others.0);
-        cases.add(name, move |dice| {
+        let spared =
+            count == 201 && [(TANK.0, CARGO.0), (CARGO.0, ITEM.0)].contains(&(others.0, last.0));
+        cases.add_spared(spared, name, move |dice| {
             let vessel = vessel::judged(dice);
             let share = vessel.mass / count;
             let mut entries = vec![others.1(share, vessel.kg); count as usize - 1];
@@ -170,7 +172,7 @@ fn add_counts(cases: &mut Cases) {
             vessel.draft(entries).text()
         });
     }
-    cases.add("C5 as entry 201 at depth 4", |dice| {
+    cases.add_spared(true, "C5 as entry 201 at depth 4", |dice| {
         crowded(dice, 4, None).text()
     });
     for fault in [None, Some(Fault::BodyShort)] {

@@ -11,8 +11,13 @@ pub struct Case {
     pub name: String,
     pub make: Make,
     pub full_only: bool,
-    /// How many texts before this one stands the text whose dice it throws.
-    pub back: u64,
+    /// A small corpus goes without it, but not without its dice, so that the
+    /// cases behind it keep the ships they had when it was there.
+    pub spared: bool,
+    /// The number of the dice it throws.
+    pub number: u64,
+    /// How many cases before this one stands the case whose dice it throws.
+    back: u64,
 }
 
 /// The list that each part of the corpus adds its cases to.
@@ -33,6 +38,8 @@ impl Cases {
             name: name.into(),
             make: Box::new(move |dice| make(dice).into()),
             full_only: false,
+            spared: false,
+            number: 0,
             back: 0,
         });
     }
@@ -57,6 +64,18 @@ impl Cases {
         self.add_where(true, name, make);
     }
 
+    /// A case that a small corpus has had and goes without, or one for every
+    /// corpus.
+    pub fn add_spared<T: Into<Call>>(
+        &mut self,
+        spared: bool,
+        name: impl Into<String>,
+        make: impl Fn(&mut Dice) -> T + 'static,
+    ) {
+        self.add(name, make);
+        self.last(|case| case.spared = spared);
+    }
+
     /// Cases that throw the same dice, and so have the same ship.
     pub fn add_twins<K: Copy + 'static, T: Into<Call>>(
         &mut self,
@@ -74,5 +93,23 @@ impl Cases {
         if let Some(case) = self.list.last_mut() {
             change(case);
         }
+    }
+
+    /// The cases of a full corpus or of a small one, each with the number of
+    /// its dice, and how many numbers are given away.
+    pub fn numbered(self, small: bool) -> (Vec<Case>, u64) {
+        let mut given = 0;
+        let mut cases = Vec::new();
+        for mut case in self.list {
+            if small && case.full_only {
+                continue;
+            }
+            case.number = given - case.back;
+            given += 1;
+            if !(small && case.spared) {
+                cases.push(case);
+            }
+        }
+        (cases, given)
     }
 }

@@ -7,17 +7,18 @@ use super::draft::{item, tank, Block, Draft};
 use super::faults::apply_any;
 use super::garble::{changed, misplaced, noise};
 use super::load::{grouped, mixed, spread};
+use super::slips::{slip, FIRST_KN};
 use super::vessel::{self, Vessel};
 use super::winds::blow;
 use crate::instrument::{Call, MOST_ROOM};
-use crate::layout::{fields, C1, C6};
+use crate::layout::{fields, A2, C1, C6};
 use crate::report::REPORT;
 use crate::sets::SETS;
 use crate::stream::LONGEST;
 use crate::text::MOST_CHARACTERS;
 
 pub fn call(dice: &mut Dice, small: bool) -> Call {
-    let mut text = match dice.index(40) {
+    let mut text = match dice.index(44) {
         0..=5 => sound(dice, small).text(),
         6..=17 => booklet(dice, small).text(),
         18..=21 => windy(dice),
@@ -33,6 +34,7 @@ pub fn call(dice: &mut Dice, small: bool) -> Call {
             let text = either(dice, small).text();
             changed(dice, text)
         }
+        39..=42 => slipped(dice, small),
         _ => noise(dice, small),
     };
     text.truncate(LONGEST);
@@ -145,7 +147,8 @@ fn high(dice: &mut Dice) -> Vec<u8> {
     laid_out(dice, vessel, entries).text()
 }
 
-/// Some values set anywhere within their limits, or anywhere at all.
+/// Some values set anywhere within their limits, or anywhere at all; of five
+/// KN values four stay as they are, since most others would be slips.
 fn valued(dice: &mut Dice, small: bool, within: bool) -> Vec<u8> {
     let mut draft = either(dice, small);
     let paths = draft.paths();
@@ -156,6 +159,9 @@ fn valued(dice: &mut Dice, small: bool, within: bool) -> Vec<u8> {
             continue;
         };
         let index = dice.index(fields.len());
+        if block.tag == A2 && index >= FIRST_KN && dice.chance(80) {
+            continue;
+        }
         let field = fields[index];
         let held = (1 << (8 * field.width)) - 1;
         block.values[index] = match (within, dice.index(4)) {
@@ -168,11 +174,43 @@ fn valued(dice: &mut Dice, small: bool, within: bool) -> Vec<u8> {
     draft.text()
 }
 
+/// One to three slips in the rows: half of them alone, a quarter with a fault
+/// of the ship or of a row, a quarter with faults anywhere; and of all one in
+/// five garbled.
+fn slipped(dice: &mut Dice, small: bool) -> Vec<u8> {
+    let mut draft = either(dice, small);
+    let rows = draft.paths_of(A2);
+    for _ in 0..dice.between(1, 3) {
+        let path = dice.pick(&rows);
+        slip(dice, &mut draft.at(&path).values[FIRST_KN..]);
+    }
+    let mut text = match dice.index(4) {
+        0 => spoiled(dice, draft),
+        1 => {
+            let frame = dice.index(rows.len() + 1);
+            apply_any(dice, &mut draft, &[frame]);
+            draft.text()
+        }
+        _ => draft.text(),
+    };
+    if dice.chance(20) {
+        text = match dice.chance(50) {
+            true => misplaced(dice, &text),
+            false => changed(dice, text),
+        };
+    }
+    text
+}
+
 /// One to three faults of blocks; the later ones are put in first, so that
 /// the paths of the others still lead somewhere. One in six is the tag of a
 /// weather block.
 fn faulty(dice: &mut Dice, small: bool) -> Vec<u8> {
-    let mut draft = either(dice, small);
+    let draft = either(dice, small);
+    spoiled(dice, draft)
+}
+
+fn spoiled(dice: &mut Dice, mut draft: Draft) -> Vec<u8> {
     let all = draft.paths();
     let mut paths: Vec<Vec<usize>> = (0..dice.between(1, 3)).map(|_| dice.pick(&all)).collect();
     paths.sort();

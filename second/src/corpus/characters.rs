@@ -9,9 +9,16 @@ use super::vessel;
 /// The characters of the small text, which has always the same shape.
 pub const SMALL: usize = 244;
 
+/// Where its lines begin, and where it ends.
+const LINES: [usize; 5] = [0, 33, 108, 183, SMALL];
+
+/// A small corpus has the cuts at the ends of the lines and around them, and of
+/// the others one in five.
 pub fn add(cases: &mut Cases) {
     for kept in 0..SMALL {
-        cases.add(format!("cut after {kept} characters"), move |dice| {
+        let between = LINES.iter().all(|line| line.abs_diff(kept) > 3);
+        let name = format!("cut after {kept} characters");
+        cases.add_spared(between && kept % 5 > 0, name, move |dice| {
             let mut text = small(dice);
             text.truncate(kept);
             text

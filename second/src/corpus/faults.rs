@@ -31,7 +31,7 @@ pub enum Fault {
 
 use Fault::*;
 
-const OF_FRAME: [Fault; 11] = [
+pub const OF_FRAME: [Fault; 11] = [
     PastParent,
     PastAll,
     OneShort,
@@ -174,15 +174,19 @@ pub fn entry_path(depth: usize, entry: usize) -> Vec<usize> {
     path
 }
 
-/// With a second fault where the nesting is least, midst and most.
+/// With a second fault where the nesting is least, midst and most; in a small
+/// corpus not where it is midst.
 fn add_at(cases: &mut Cases, depth: usize, path: Vec<usize>) {
     let form = ladder(&mut Dice::new(0, 0), depth).at(&path).form();
     let alone = path.len() > 2 && depth % 2 == 1;
+    let groups = path.len().saturating_sub(if form == C4 { 1 } else { 2 });
+    let midst = [2, 3].contains(&groups);
     for &fault in faults_of(form) {
         for &second in if alone { &SECONDS[..1] } else { &SECONDS[..] } {
             let name = format!("fault {fault:?} at {path:?} of depth {depth}, second {second:?}");
             let path = path.clone();
-            cases.add(name, move |dice| {
+            let spared = midst && second != Second::None;
+            cases.add_spared(spared, name, move |dice| {
                 let draft = ladder(dice, depth);
                 faulty(dice, draft, &path, fault, second)
             });

@@ -18,6 +18,7 @@ mod order;
 mod rolls;
 mod rows;
 mod sizes;
+mod slips;
 mod solve;
 mod timber;
 mod vessel;
@@ -35,6 +36,9 @@ pub struct Corpus {
     seed: u64,
     small: bool,
     cases: Vec<Case>,
+    /// By how much the number of a text's dice is ahead of its own, behind the
+    /// systematic cases.
+    ahead: u64,
 }
 
 impl Corpus {
@@ -54,11 +58,13 @@ impl Corpus {
         cargo::add(&mut cases);
         timber::add(&mut cases);
         booklets::add(&mut cases);
-        cases.list.retain(|case| !(small && case.full_only));
+        slips::add(&mut cases);
+        let (cases, given) = cases.numbered(small);
         Corpus {
             seed,
             small,
-            cases: cases.list,
+            ahead: given - cases.len() as u64,
+            cases,
         }
     }
 
@@ -73,8 +79,8 @@ impl Corpus {
             .ok()
             .and_then(|number| self.cases.get(number))
         {
-            Some(case) => (case.make)(&mut Dice::new(self.seed, number - case.back)),
-            None => chance::call(&mut Dice::new(self.seed, number), self.small),
+            Some(case) => (case.make)(&mut Dice::new(self.seed, case.number)),
+            None => chance::call(&mut Dice::new(self.seed, number + self.ahead), self.small),
         }
     }
 }

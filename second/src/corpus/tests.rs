@@ -4,7 +4,7 @@
 use std::collections::BTreeSet;
 use std::path::PathBuf;
 
-use super::winds::sail_text;
+use super::winds::{sail_text, Sailing, DIPS};
 use super::Corpus;
 use crate::criteria::{Judgement, FAIL, NOT_JUDGED, PASS, UNUSED};
 use crate::curve::Y_PER_MILLIMETRE;
@@ -12,13 +12,13 @@ use crate::instrument::{answer, judge_text, judgements, Call};
 use crate::refusal::Refusal;
 use crate::stream::write_call;
 
-const SYSTEMATIC: usize = 2_680;
-const SYSTEMATIC_SMALL: usize = 2_389;
+const SYSTEMATIC: usize = 2_960;
+const SYSTEMATIC_SMALL: usize = 2_407;
 const TWINS: usize = 51;
 const STORED_SEED: u64 = 20_261_115;
 /// The bytes of both stored files are fewer.
 const STORED_MOST: usize = 2_000_000;
-const STORED_COUNT: u64 = 2_449;
+const STORED_COUNT: u64 = 2_467;
 
 pub fn named(corpus: &Corpus, name: &str) -> Call {
     let number = corpus.cases.iter().position(|case| case.name == name);
@@ -121,9 +121,52 @@ fn criterion_8_is_judged_up_to_its_edges() {
 #[test]
 fn the_first_of_equal_levers_is_taken() {
     for corpus in seeds() {
-        for (first, second, kg) in [(3, 5, 5_000), (2, 6, 20_000), (5, 7, 12_500), (4, 5, 0)] {
+        for (first, second, kg) in [
+            (3, 5, 5_000),
+            (3, 5, 10_000),
+            (2, 6, 20_000),
+            (5, 7, 12_500),
+            (6, 7, 0),
+            (5, 6, 0),
+            (4, 5, 0),
+        ] {
             let name = format!("equal levers at stations {first} and {second}, KG {kg}");
             assert_eq!(judged(&corpus, &name).figures[7], 50 * first);
+        }
+    }
+}
+
+/// Crests at a station, and flooding angles before one.
+#[test]
+fn angles_are_what_they_are_named() {
+    for corpus in seeds() {
+        for station in [4, 5, 6, 12] {
+            let judged = judged(&corpus, &format!("crest at station {station}"));
+            assert_eq!(judged.figures[7], 50 * station);
+            let verdict = if station < 5 { FAIL } else { PASS };
+            assert_eq!(judged.verdicts[4], verdict);
+        }
+        for (flooding, station) in [(249, 5), (250, 5), (251, 6), (250, 6)] {
+            let name = format!("flooding at {flooding} before a crest at station {station}");
+            assert_eq!(judged(&corpus, &name).figures[7], flooding);
+        }
+    }
+}
+
+/// The curve falls under the gust lever before a dip and rises again or not.
+#[test]
+fn dips_are_what_they_are_named() {
+    for corpus in seeds() {
+        for (dip, again) in DIPS {
+            let name = format!("dip at station {dip}, again {again}");
+            let Sailing { curve, wind, gust } =
+                sail_text(&named(&corpus, &name).text).expect("a sound text");
+            let gust_y = wind.gust_lever * Y_PER_MILLIMETRE;
+            let at = 50 * dip as i128;
+            let end = gust.map(|gust| gust.end).expect("a gust that is met");
+            assert!(curve.y(at - 50) >= gust_y && curve.y(at) < gust_y, "{name}");
+            assert!(end == 500.min(end) && end >= (at - 50).min(500) && end < at);
+            assert_eq!(curve.first_at_least(gust_y, at..=600).is_some(), again);
         }
     }
 }
@@ -317,7 +360,7 @@ fn every_verdict_and_refusal_occurs() {
             }
         }
     }
-    assert_eq!(refusals, (1..=9).collect());
+    assert_eq!(refusals, (1..=10).collect());
     let mut both: BTreeSet<(usize, u8)> = (0..8).flat_map(|slot| [(slot, 0), (slot, 1)]).collect();
     both.insert((7, NOT_JUDGED));
     both.extend([0, 1, 4].map(|slot| (slot, UNUSED)));

@@ -11,7 +11,8 @@ use crate::instrument::Call;
 pub fn add(cases: &mut Cases) {
     for count in [1, 2, 23, 24, 25, 26] {
         let name = format!("{count} conditions");
-        cases.add(name, move |dice| booklet(dice, count).text());
+        let spared = [23, 26].contains(&count);
+        cases.add_spared(spared, name, move |dice| booklet(dice, count).text());
     }
     for count in [2, 23, 24, 25, 26] {
         let name = format!("{count} conditions with faults");

@@ -35,7 +35,7 @@ pub fn add(cases: &mut Cases) {
 const FIRST: usize = 3;
 
 /// A ship of two rows, on the first of them.
-fn coaster(dice: &mut Dice) -> Vessel {
+pub fn coaster(dice: &mut Dice) -> Vessel {
     let mut vessel = vessel::judged(dice);
     vessel.rows.truncate(2);
     vessel.mass = vessel.rows[0].displacement;
@@ -49,7 +49,7 @@ fn booklet(dice: &mut Dice, count: usize) -> Draft {
 }
 
 /// So many conditions of a ship, each a voyage of its own with one item.
-fn bound(dice: &mut Dice, vessel: &Vessel, count: usize) -> Draft {
+pub fn bound(dice: &mut Dice, vessel: &Vessel, count: usize) -> Draft {
     let mut draft = vessel.hull();
     for _ in 0..count {
         let voyage = vessel.voyage(dice);
@@ -60,22 +60,22 @@ fn bound(dice: &mut Dice, vessel: &Vessel, count: usize) -> Draft {
 }
 
 /// The bytes of a draft's lines.
-fn lines_of(draft: &Draft) -> Vec<Vec<u8>> {
+pub fn lines_of(draft: &Draft) -> Vec<Vec<u8>> {
     draft.frames.iter().map(|frame| frame.bytes()).collect()
 }
 
-fn text_of(lines: &[Vec<u8>]) -> Vec<u8> {
+pub fn text_of(lines: &[Vec<u8>]) -> Vec<u8> {
     lines.iter().flat_map(|bytes| line(bytes)).collect()
 }
 
-fn limited(text: Vec<u8>, limit: usize) -> Call {
+pub fn limited(text: Vec<u8>, limit: usize) -> Call {
     Call {
         limit,
         ..text.into()
     }
 }
 
-fn roomed(text: Vec<u8>, room: usize) -> Call {
+pub fn roomed(text: Vec<u8>, room: usize) -> Call {
     Call {
         room,
         ..text.into()
@@ -83,7 +83,7 @@ fn roomed(text: Vec<u8>, room: usize) -> Call {
 }
 
 /// The numbers that can be said of a condition, in order.
-const NUMBERS: [u8; 7] = [2, 3, 4, 5, 6, 7, 8];
+pub const NUMBERS: [u8; 7] = [2, 3, 4, 5, 6, 7, 8];
 
 /// Where in a condition a fault can be put, for each of the numbers 2 to 6.
 fn ways(number: u8) -> &'static [(&'static [usize], Fault)] {
@@ -110,7 +110,7 @@ fn ways(number: u8) -> &'static [(&'static [usize], Fault)] {
 }
 
 /// Puts a fault of this number into the condition at a frame.
-fn spoil(dice: &mut Dice, draft: &mut Draft, frame: usize, number: u8) {
+pub fn spoil(dice: &mut Dice, draft: &mut Draft, frame: usize, number: u8) {
     match number {
         7 => {
             let row = 1 + dice.index(2);

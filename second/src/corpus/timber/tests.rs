@@ -8,7 +8,7 @@ use crate::criteria::{Judgement, FAIL, NOT_JUDGED, PASS, UNUSED};
 use crate::instrument::{judge_text, judgements};
 use crate::refusal::Refusal;
 
-const TWINS: usize = 141;
+const TWINS: usize = 151;
 
 /// What each set says of a case.
 fn both(corpus: &Corpus, name: &str) -> [Judgement; 2] {
