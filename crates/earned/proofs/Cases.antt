@@ -17,7 +17,7 @@ abbrev figures : Loaded → ℕ → ℕ → List ℤ
 figures c tenths q = pos (phi0By q c) ∷ startBy q (q * tenths) c ∷ pos (uBy q c) ∷ pos (eBy q c) ∷ netBy q (q * tenths) c ∷ []
 
 -- phi0, start, u, e and net of the example, with its roll of 18.7 degrees, at halves and thirds: e is the flooding angle.
-pub example-worked : map (figures (loaded reading) 187) (2 ∷ 3 ∷ []) ≡ (pos 264 ∷ negℤ (pos 110) ∷ pos 276 ∷ pos 900 ∷ negℤ (pos 539_600_000) ∷ []) ∷ (pos 395 ∷ negℤ (pos 166) ∷ pos 414 ∷ pos 1_350 ∷ negℤ (pos 738_496_000) ∷ []) ∷ []
+pub example-worked : map (figures (loaded reading) 187) (2 ∷ 3 ∷ []) ≡ (pos 268 ∷ negℤ (pos 106) ∷ pos 284 ∷ pos 900 ∷ negℤ (pos 1_769_376_000) ∷ []) ∷ (pos 401 ∷ negℤ (pos 160) ∷ pos 426 ∷ pos 1_350 ∷ negℤ (pos 2_613_600_000) ∷ []) ∷ []
 unfolding loaded judgement leverBy yBy phi0By startBy uBy eBy netBy
 example-worked = refl
 

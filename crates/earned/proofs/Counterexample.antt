@@ -1,4 +1,4 @@
--- What the condition of criterion 8's theorem excludes: a text that passes all eight with a net of +23,824,000, and whose exact b - a is below zero. Its curve lies below -lw2 from 4.8 degrees to the start.
+-- What the condition of criterion 8's theorem excludes: a text that passes all eight with a net of +6,144,000, and whose exact b - a is below zero. Its curve lies below -lw2 from 4 degrees to the start.
 use mathlib.Core.Path.{_≡_, refl, ap, _∙_}
 use mathlib.Core.Bool.{false}
 use mathlib.Core.List.{[], _∷_}
@@ -29,17 +29,17 @@ reads = refl
 -- All eight pass; the last figure is the net.
 pub judges : answered text ≡ got (record {
   verdicts = replicate 8 pass;
-  figures = pos 30_000_000 ∷ pos 16_000 ∷ pos 1_400 ∷ pos 593_090_000_000 ∷ pos 617_700_000_000 ∷ pos 1_210_790_000_000 ∷ pos 3_271_800_000 ∷ pos 400 ∷ pos 132 ∷ pos 187 ∷ pos 23_824_000 ∷ [];
+  figures = pos 30_000_000 ∷ pos 16_000 ∷ pos 1_400 ∷ pos 355_090_000_000 ∷ pos 371_450_000_000 ∷ pos 726_540_000_000 ∷ pos 1_868_600_000 ∷ pos 350 ∷ pos 134 ∷ pos 187 ∷ pos 6_144_000 ∷ [];
 })
 unfolding answered
 judges = refl
 
--- ---- the exact figure: 22,107 parts of a tenth, at which the curve has lw1 exactly
+-- ---- the exact figure: 26 parts of a tenth, at which the curve has lw1 exactly
 abbrev pub loading : Loaded
 loading = loaded reading
 
 abbrev pub parts : ℕ
-parts = 22_107
+parts = 26
 
 begins : y loading (pos 0) ≡ pos 0
 unfolding loaded judgement
@@ -49,10 +49,10 @@ gusty : noGust loading ≡ false
 unfolding loaded judgement
 gusty = refl
 
--- phi0 lies 12,683 parts beyond 13.1 degrees; e is the flooding angle, 45 degrees.
-heel : phi0By parts loading ≡ parts * 131 + 12_683
+-- phi0 lies 17 parts beyond 13.3 degrees; e is the flooding angle, 45 degrees.
+heel : phi0By parts loading ≡ parts * 133 + 17
 unfolding loaded judgement
-heel = heel-at parts (omega arith) loading begins (gust loading gusty .0) 131 12_683 9_424 refl refl refl
+heel = heel-at parts (omega arith) loading begins (gust loading gusty .0) 133 17 9 refl refl refl
 
 last : eBy parts loading ≡ parts * farthest loading
 unfolding loaded judgement
@@ -60,7 +60,7 @@ last = end-far parts (omega arith) loading begins gusty refl
 
 pub exactly : Exactly parts loading
 unfolding loaded judgement
-exactly = record { heel = heel-meets parts (omega arith) loading begins (gust loading gusty .0) 131 12_683 9_424 refl refl refl; end = λ h. absurd (omega (arith, last)) }
+exactly = record { heel = heel-meets parts (omega arith) loading begins (gust loading gusty .0) 133 17 9 refl refl refl; end = λ h. absurd (omega (arith, last)) }
 
 abbrev level : ℕ
 level = 5_000_000 * lw2 loading
@@ -69,16 +69,16 @@ level = 5_000_000 * lw2 loading
 abbrev pub roll : ℕ
 roll = parts * phi1 loading
 
-from-start : startBy parts roll loading ≡ pos parts *ℤ start loading +ℤ pos 12_683
+from-start : startBy parts roll loading ≡ pos parts *ℤ start loading +ℤ pos 17
 unfolding startBy loaded judgement
 from-start = ap (λ (x : ℕ). pos x -ℤ pos roll) heel
 
--- -32,894,216,979,796,000 / 22,107² is -67,306,953.
-pub b-less-a : netBy parts roll loading ≡ negℤ (pos 32_894_216_979_796_000)
+-- -192,392,904,000 / 26² is -284,604,888.
+pub b-less-a : netBy parts roll loading ≡ negℤ (pos 192_392_904_000)
 unfolding loaded judgement sumZ
 b-less-a =
-    let before = part parts (over (yBy parts loading) (parts * level)) (over (y loading) level) (straight parts (omega arith) loading begins) 12_683 9_424 refl (start loading) in
-    go (netBy parts roll loading) (sumZ (gusts parts loading) 12_683 (pos parts *ℤ start loading)) (pos (parts * parts) *ℤ net loading) (pieces parts (omega arith) loading begins roll 12_683 0 506 from-start last refl (omega arith)) ∙ ap (λ (z : ℤ). pos (parts * parts) *ℤ net loading -ℤ z) before
+    let before = part parts (over (yBy parts loading) (parts * level)) (over (y loading) level) (straight parts (omega arith) loading begins) 17 9 refl (start loading) in
+    go (netBy parts roll loading) (sumZ (gusts parts loading) 17 (pos parts *ℤ start loading)) (pos (parts * parts) *ℤ net loading) (pieces parts (omega arith) loading begins roll 17 0 504 from-start last refl (omega arith)) ∙ ap (λ (z : ℤ). pos (parts * parts) *ℤ net loading -ℤ z) before
   where
     go : (x a b : ℤ) → x +ℤ a ≡ b +ℤ pos 0 → x ≡ b -ℤ a
     go x a b h = eq! x (b -ℤ a) (omega (arith, add≡ x a, add≡ b (pos 0), diff≡ b a, ap up h, ap dn h))

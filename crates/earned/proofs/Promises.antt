@@ -154,10 +154,10 @@ pub end-is-earned : (R : Reading) → Limits R → weighed R ≡ got tt → noGu
 end-is-earned R l w h q some = gust.end-piece q some (loaded R) (upright (loaded R) (fair R l w)) h
 
 -- ---- what the condition excludes
--- A text that passes all eight, with a net of +23,824,000 ..
+-- A text that passes all eight, with a net of +6,144,000 ..
 pub counterexample-passes : answered text ≡ got (record {
   verdicts = replicate 8 pass;
-  figures = pos 30_000_000 ∷ pos 16_000 ∷ pos 1_400 ∷ pos 593_090_000_000 ∷ pos 617_700_000_000 ∷ pos 1_210_790_000_000 ∷ pos 3_271_800_000 ∷ pos 400 ∷ pos 132 ∷ pos 187 ∷ pos 23_824_000 ∷ [];
+  figures = pos 30_000_000 ∷ pos 16_000 ∷ pos 1_400 ∷ pos 355_090_000_000 ∷ pos 371_450_000_000 ∷ pos 726_540_000_000 ∷ pos 1_868_600_000 ∷ pos 350 ∷ pos 134 ∷ pos 187 ∷ pos 6_144_000 ∷ [];
 })
 counterexample-passes = counter.judges
 
@@ -165,12 +165,12 @@ counterexample-passes = counter.judges
 pub counterexample-reads : read text ≡ got reading
 counterexample-reads = counter.reads
 
--- .. and at 22,107 parts of a tenth, where its angles are exact ..
-pub counterexample-exact : Exactly 22_107 (loaded reading)
+-- .. and at 26 parts of a tenth, where its angles are exact ..
+pub counterexample-exact : Exactly 26 (loaded reading)
 counterexample-exact = counter.exactly
 
--- .. its b - a, 22,107² times, is -32,894,216,979,796,000: it is -67,306,953.
-pub counterexample-below : netBy 22_107 (22_107 * phi1 (loaded reading)) (loaded reading) ≡ negℤ (pos 32_894_216_979_796_000)
+-- .. its b - a, 26² times, is -192,392,904,000: it is -284,604,888.
+pub counterexample-below : netBy 26 (26 * phi1 (loaded reading)) (loaded reading) ≡ negℤ (pos 192_392_904_000)
 counterexample-below = counter.b-less-a
 
 -- Its curve is not one of those above.

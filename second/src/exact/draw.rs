@@ -158,6 +158,34 @@ pub fn early(dice: &mut Dice) -> Document {
     drawn(dice, &EARLY)
 }
 
+/// Whether a text with these rows is read, as far as KN's bends go.
+pub fn smooth(document: &Document) -> bool {
+    document.rows.iter().all(Row::smooth)
+}
+
+/// The most that KN bends in the first row once it is straightened. In the
+/// other it is up to 4 mm greater at each station, and bends by no more than
+/// 400.
+const MOST_BENT: i128 = 392;
+
+/// Brings KN from this station on near enough to the straight line through
+/// the two before it, in both rows alike; none if it would leave KN's limits.
+pub fn straighten(document: &mut Document, from: usize) -> Option<()> {
+    (from..13).try_for_each(|station| {
+        let kn = &document.rows[0].kn;
+        let straight = 2 * kn[station - 1] - kn[station - 2];
+        let near = kn[station].clamp(straight - MOST_BENT, straight + MOST_BENT);
+        let more = near - kn[station];
+        lift(document, station, more).then_some(())
+    })
+}
+
+/// Lifts KN by this much at 40 degrees, and by less before and beyond.
+pub fn swell(document: &mut Document, most: i128) -> Option<()> {
+    (1..13)
+        .try_for_each(|station| lift(document, station, most * LATE[station] / 1_000).then_some(()))
+}
+
 /// Adds so many millimetres to KN at a station in both rows; false if it
 /// would leave KN's limits.
 pub fn lift(document: &mut Document, station: usize, more: i128) -> bool {

@@ -3,7 +3,7 @@
 
 use std::io::{self, Write};
 
-use super::draw::text;
+use super::draw::{smooth, text};
 use super::hull::Hull;
 use super::levers::Levers;
 use super::rounding::{choices, Kept};
@@ -20,6 +20,12 @@ use crate::curve::Y_PER_MILLIMETRE;
 const NEAR: i128 = 10_000_000_000;
 
 pub struct Search {
+    /// Draws that could not be brought where they were sought.
+    missed: u64,
+    /// Texts that are refused for a row that is not smooth.
+    bent: u64,
+    /// Texts that are refused for their mass or their KG.
+    off: u64,
     fifth: Tally,
     /// One for each kind of curve, in the order of `KINDS`.
     eighth: [Tally; 4],
@@ -28,21 +34,17 @@ pub struct Search {
 impl Search {
     pub fn run(seed: u64, count: u64) -> Search {
         let mut search = Search {
+            missed: 0,
+            bent: 0,
+            off: 0,
             fifth: Tally::new("peaks near 25 degrees"),
             eighth: KINDS.map(Tally::new),
         };
         for number in 0..count {
-            let mut dice = Dice::new(seed, number);
-            let drawn = match dice.index(20) {
-                0..=4 => tune::plain_edge(&mut dice),
-                5..=8 => tune::clean_edge(&mut dice),
-                9..=13 => tune::sagging_edge(&mut dice),
-                14..=15 => tune::humped(&mut dice),
-                16..=17 => tune::peak(&mut dice),
-                _ => tune::border(&mut dice),
-            };
-            if let Some(document) = drawn {
-                search.judge(&document);
+            match drawn(seed, number) {
+                None => search.missed += 1,
+                Some(document) if !smooth(&document) => search.bent += 1,
+                Some(document) => search.judge(&document),
             }
         }
         search
@@ -50,6 +52,7 @@ impl Search {
 
     fn judge(&mut self, document: &Document) {
         let Ok(judged) = judge_document(document) else {
+            self.off += 1;
             return;
         };
         let Some(verdicts) = Verdicts::of(document, Kept::NONE) else {
@@ -92,6 +95,12 @@ impl Search {
 
     pub fn print(&self, out: &mut impl Write) -> io::Result<()> {
         writeln!(out, "{COLUMNS}")?;
+        writeln!(
+            out,
+            "left out: {} not brought where they were sought, {} with a row that is not smooth, \
+             {} refused with 7 or 8\n",
+            self.missed, self.bent, self.off
+        )?;
         write_tally(out, 5, &self.fifth)?;
         for tally in &self.eighth {
             write_tally(out, 8, tally)?;
@@ -104,6 +113,19 @@ impl Search {
             }
         }
         Ok(())
+    }
+}
+
+/// The document of this number, if it could be brought where it was sought.
+pub fn drawn(seed: u64, number: u64) -> Option<Document> {
+    let mut dice = Dice::new(seed, number);
+    match dice.index(20) {
+        0..=4 => tune::plain_edge(&mut dice),
+        5..=8 => tune::clean_edge(&mut dice),
+        9..=13 => tune::sagging_edge(&mut dice),
+        14..=15 => tune::humped(&mut dice),
+        16..=17 => tune::peak(&mut dice),
+        _ => tune::border(&mut dice),
     }
 }
 

@@ -1,7 +1,7 @@
 //! Bringing a drawn ship to the edge of criterion 5 or 8, by document 01's
 //! own judgement: only there can a rounding decide.
 
-use super::draw::{clean, early, lift, ordinary};
+use super::draw::{clean, early, lift, ordinary, smooth, straighten, swell};
 use super::hull::Hull;
 use super::roll;
 use super::rounding::{Kept, Rounding};
@@ -63,25 +63,44 @@ fn blow(document: &mut Document, lever: i128) -> Option<()> {
     Some(())
 }
 
-/// Takes from KN at the higher stations as long as criterion 8 passes: first
-/// from all of them alike, then from each alone.
+/// Takes from KN at the higher stations as long as the rows stay smooth and
+/// criterion 8 passes: first from all of them, in great steps by the slope and
+/// in small ones alike, then from each alone.
 fn trim(document: &mut Document, most: u32) {
     for step in (0..=most).rev().map(|power| 1 << power) {
-        take(document, &[5, 6, 7, 8, 9, 10], step);
+        let stations: &[Part] = if step > 32 { &SLOPE } else { &ALIKE };
+        take(document, stations, step);
         if step <= 4 {
-            for station in 5..=10 {
-                take(document, &[station], step);
+            for station in &ALIKE {
+                take(document, std::slice::from_ref(station), step);
             }
         }
     }
 }
 
-fn take(document: &mut Document, stations: &[usize], step: i128) {
+/// A station, and how many quarters of a step are taken there.
+type Part = (usize, i128);
+
+const ALIKE: [Part; 6] = [(5, 4), (6, 4), (7, 4), (8, 4), (9, 4), (10, 4)];
+
+/// Bends KN by a quarter of the step only.
+const SLOPE: [Part; 8] = [
+    (4, 1),
+    (5, 2),
+    (6, 3),
+    (7, 4),
+    (8, 4),
+    (9, 3),
+    (10, 2),
+    (11, 1),
+];
+
+fn take(document: &mut Document, stations: &[Part], step: i128) {
     let mut lower = document.clone();
     let fits = stations
         .iter()
-        .all(|&station| lift(&mut lower, station, -step));
-    if fits && passes(&lower) {
+        .all(|&(station, quarters)| lift(&mut lower, station, -step * quarters / 4));
+    if fits && smooth(&lower) && passes(&lower) {
         *document = lower;
     }
 }
@@ -110,21 +129,22 @@ pub fn clean_edge(dice: &mut Dice) -> Option<Document> {
     Some(document)
 }
 
-/// A curve that lies below -lw2 at its first stations, where the roll starts.
+/// A curve that lies below -lw2 at its first stations, where the roll starts,
+/// and rises from there no more steeply than KN may bend.
 pub fn sagging_edge(dice: &mut Dice) -> Option<Document> {
     for _ in 0..8 {
         let mut document = ordinary(dice);
+        let more = dice.between(0, 1_500);
+        swell(&mut document, more)?;
         let lever = dice.between(10, 200);
         blow(&mut document, lever)?;
         let gusting = wind(&document)?.gust_lever;
         let depth = gusting + dice.between(1, 120);
-        for station in 1..=1 + dice.index(3) {
+        let last = 1 + dice.index(3);
+        for station in 1..=last {
             set_lever(&mut document, station, -depth * Y_PER_MILLIMETRE)?;
         }
-        let more = dice.between(0, 1_500);
-        for station in 5..=10 {
-            lift(&mut document, station, more);
-        }
+        straighten(&mut document, last + 1)?;
         let wanted = dice.pick(&OF_THE_ROLL);
         if seek(dice, &mut document, wanted) && starts_below(&document) == Some(true) {
             trim(&mut document, 9);
@@ -202,6 +222,7 @@ pub fn humped(dice: &mut Dice) -> Option<Document> {
     for later in station + 2..=10 {
         lift(&mut document, later, 300);
     }
+    straighten(&mut document, station + 2)?;
     Some(document)
 }
 
