@@ -14,8 +14,8 @@ extern "C" {
 #endif
 
 /* Judges one text, of any length and any bytes: a ship, its rows and up to 24 conditions. Returns document 01's number: 0 where every
-   condition is judged, 9 where the buffer has no room; else the number of the whole text, 1 to 6, or the first number among its
-   conditions that is not 0. One report line of 209 characters is written for each condition, in order, or a single one for a text that
+   condition is judged, 9 where the buffer has no room; else the number of the whole text, 1 to 6 or 10 (a row of the KN table with a
+   typing slip), or the first number among its conditions that is not 0, 2 to 8. One report line of 209 characters is written for each condition, in order, or a single one for a text that
    is refused as a whole; bytes beyond keep their values, and a report holds no byte 0, so that in a buffer of zeros the first 0 ends
    what was written. With 9 nothing is written. The caller answers for two slices that can be read and written for their lengths and
    do not overlap, and for 32 KiB of stack (docs/TRUST.md). */
