@@ -1,5 +1,5 @@
 -- A digit missing in a KN table (request 4), and its edges: P1 with another second row. W lies on the first row, so that each text that is read has P1's report.
-use mathlib.Core.Path.{_≡_, refl}
+use mathlib.Core.Path.{refl}
 use mathlib.Core.List.{List, [], _∷_}
 use Prim.Native.String.{String}
 use Prim.Native.Nat.{ℕ}

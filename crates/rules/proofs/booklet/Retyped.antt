@@ -1,8 +1,8 @@
 -- A text that is read, with one inner KN value of one row typed anew and more than 400 off: the whole text is refused with 10 at that row.
 use mathlib.Core.Path.{_≡_, refl, ap, sym, _∙_}
 use mathlib.Core.Bool.{Bool, true, false, _&&_}
-use mathlib.Core.List.{List, [], _∷_, _++_}
-use Prim.Native.Nat.{ℕ, zero, suc, _+_, _*_, _≤_, _<_}
+use mathlib.Core.List.{List, [], _∷_}
+use Prim.Native.Nat.{ℕ, zero, suc, _+_, _≤_, _<_}
 use native.Mathlib.Omega.{arith}
 use lib.Dec.{leb, eqb}
 use lib.ListN.{length, getD, set, replicate, length-append}
@@ -12,9 +12,9 @@ use Rattle.rules.specs.Text.{LF, hex, text, Lines}
 use Rattle.rules.specs.Blocks.{Field, field, size, block, spellValues, within, ok, spellBlock, ship, Row, row, smooth, conditionTag}
 use Rattle.rules.specs.Layout.{Rising, isCondition, conditionLines, mostRows, Booklet}
 use Rattle.rules.specs.Outcome.{refused, got}
-use Rattle.rules.specs.Met.{behindRows, lead}
+use Rattle.rules.specs.Met.{behindRows}
 use Rattle.rules.specs.Booklet.{behindShip, bookFrames, readWhole}
-use Rattle.rules.specs.Apart.{linesOf, spellBooklet, WholeLimits, LinesWithin}
+use Rattle.rules.specs.Apart.{linesOf, spellBooklet, LinesWithin}
 use Rattle.rules.specs.Mistyped.{FarApart, valueAt, nthRow, retyped, retypedIn}
 use Rattle.rules.proofs.layout.Fields.{row-lawful, length-spell, both-true}
 use Rattle.rules.proofs.layout.Lines.{length-hex}

@@ -7,7 +7,7 @@ use native.Mathlib.Omega.{arith}
 use lib.ListN.{length}
 use borrow.Author.Tests.{leb-true}
 use Rattle.rules.specs.Text.{text}
-use Rattle.rules.specs.Layout.{mostConditions, conditionLines, Booklet}
+use Rattle.rules.specs.Layout.{mostConditions, Booklet}
 use Rattle.rules.specs.Outcome.{Ans, refused, got, Unread}
 use Rattle.rules.specs.Booklet.{countedLines, bookFrames, readWhole}
 use Rattle.rules.specs.Apart.{linesOf, spellBooklet, WholeLimits, LinesWithin, AllowedWhole}

@@ -1,6 +1,6 @@
 -- Typing slips, station by station: a row is smooth exactly where none of its inner values is bent, and of two smooth rows that differ in one inner value alone, these differ by at most 400.
 use mathlib.Core.Path.{_≡_, refl, ap, sym, _∙_}
-use mathlib.Core.Logic.{_↔_, _⊎_, inl, inr, _≢_}
+use mathlib.Core.Logic.{inl, inr}
 use mathlib.Core.Bool.{Bool, true, false, _&&_}
 use mathlib.Core.List.{List, [], _∷_}
 use Prim.Native.Nat.{ℕ, zero, suc, _+_, _-_, _*_, _≤_, _<_}
@@ -8,7 +8,7 @@ use native.Mathlib.Omega.{arith}
 use lib.Dec.{leb}
 use lib.ListN.{length, getD, set, length-set}
 use lib.Seq.{getD-set-same, getD-set-other}
-use borrow.Author.Tests.{leb-true, leb-false, le-leb}
+use borrow.Author.Tests.{leb-true, leb-false}
 use Rattle.rules.specs.Blocks.{Field, within, ok, Row, row, unbent, smooth}
 use Rattle.rules.specs.Layout.{Rising}
 use Rattle.rules.specs.Mistyped.{FarApart, valueAt, neighbours, Bent, nthRow}
