@@ -23,7 +23,7 @@ const REPORT: usize = 209;
 // 'The library takes up to 180,000 characters.'
 const MOST_CHARACTERS: usize = 180_000;
 
-// 'On refusals 1 to 8 verdicts are 3 and figures 0.'
+// 'On refusals 1 to 8 verdicts are 3 and figures 0', and so on 10.
 fn no_judgement() -> Judgement
     ensures { λ r. ⌜ r ≡ judgementOf noJudgement ⌝ }
 {
@@ -115,7 +115,7 @@ fn judge_conditions(text: &[u8], front: Front, table: book::Table, report: &mut 
     number
 }
 
-// What is sent back: the number of document 01 (0 to 9), and how many bytes of the buffer are written.
+// What is sent back: the number of document 01 and request 4 (0 to 10), and how many bytes of the buffer are written.
 pub struct Reply {
     pub number: u8,
     pub length: usize,
@@ -156,7 +156,7 @@ pub fn judge_within(text: &[u8], limit: usize, report: &mut [u8]) -> Reply
     }
 }
 
-// The number of document 01 (0 to 9). The report lines, 209 characters each, stand at the front of the buffer, or nothing is written where it has no room for them.
+// The number of document 01 and request 4 (0 to 10). The report lines, 209 characters each, stand at the front of the buffer, or nothing is written where it has no room for them.
 pub fn judge(text: &[u8], report: &mut [u8]) -> u8
     ensures { λ r. ⌜ r ≡ number mostCharacters (now (text .entry)) (now (report .entry)) ⌝ }
     ensures { λ _. ⌜ now (report .exit) ≡ written mostCharacters (now (text .entry)) (now (report .entry)) ⌝ }
