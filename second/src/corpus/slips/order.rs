@@ -4,10 +4,13 @@
 
 use super::bends::lengthened;
 use super::{put_slip, slipped, EITHER, FIRST_KN};
-use crate::corpus::booklets::{bound, limited, lines_of, roomed, spoil, text_of, NUMBERS};
+use crate::corpus::booklets::{bound, coaster, limited, lines_of, roomed, spoil, text_of, NUMBERS};
 use crate::corpus::cases::Cases;
+use crate::corpus::draft;
 use crate::corpus::faults::{apply, Fault, OF_FRAME};
 
+/// The case of row 20 came to a small corpus when the others were there, and
+/// stands behind them, so that they keep their texts.
 pub fn add(cases: &mut Cases) {
     add_same_row(cases);
     add_rising(cases);
@@ -18,6 +21,8 @@ pub fn add(cases: &mut Cases) {
     add_counts(cases);
     add_characters(cases);
     add_rooms(cases);
+    add_slips(cases, false, vec![20], 40);
+    add_not_due(cases);
 }
 
 /// Another fault in the row of the slip.
@@ -80,26 +85,29 @@ fn add_rows(cases: &mut Cases) {
         (vec![1, 2, 3], 3),
         (vec![40], 40),
         (vec![41], 41),
-        (vec![20], 40),
-        (vec![40], 41),
     ] {
-        let words: Vec<String> = slips.iter().map(usize::to_string).collect();
-        let name = format!("slip in row {} of {count}", words.join(" and "));
-        let spare = slips[0] == 20 || (slips[0] == 40 && count == 41);
-        cases.add_where(spare, name, move |dice| {
-            let mut vessel = lengthened(dice, count);
-            for &row in &slips {
-                put_slip(dice, &mut vessel, row);
-            }
-            bound(dice, &vessel, 1).text()
-        });
+        add_slips(cases, false, slips, count);
     }
+    add_slips(cases, true, vec![40], 41);
     cases.add_full("slip in row 41 of 41, past its line", |dice| {
         let mut vessel = lengthened(dice, 41);
         put_slip(dice, &mut vessel, 41);
         let mut draft = bound(dice, &vessel, 1);
         apply(dice, &mut draft, &[41], Fault::PastParent);
         draft.text()
+    });
+}
+
+/// Slips in these rows of so many, for full corpora only or for every corpus.
+fn add_slips(cases: &mut Cases, full_only: bool, slips: Vec<usize>, count: usize) {
+    let words: Vec<String> = slips.iter().map(usize::to_string).collect();
+    let name = format!("slip in row {} of {count}", words.join(" and "));
+    cases.add_where(full_only, name, move |dice| {
+        let mut vessel = lengthened(dice, count);
+        for &row in &slips {
+            put_slip(dice, &mut vessel, row);
+        }
+        bound(dice, &vessel, 1).text()
     });
 }
 
@@ -272,4 +280,28 @@ fn add_rooms(cases: &mut Cases) {
         lines.extend(vec![vec![0xA3]; 25]);
         roomed(text_of(&lines), 209)
     });
+}
+
+/// A row with a slip where the ship is due, or conditions alone: its 4 goes
+/// before its 10. And a whole A3 where the row with the slip is due.
+fn add_not_due(cases: &mut Cases) {
+    cases.add("slip in row 1 and no ship", |dice| {
+        let lines = lines_of(&slipped(dice, 1, 1));
+        text_of(&lines[1..])
+    });
+    cases.add("slip in row 1 behind a whole A3", |dice| {
+        let mut lines = lines_of(&slipped(dice, 1, 1));
+        lines.insert(1, lines[3].clone());
+        text_of(&lines)
+    });
+    for (place, before) in [("before the ship", 0), ("behind the first condition", 4)] {
+        cases.add(format!("a row with a slip {place}"), move |dice| {
+            let mut vessel = coaster(dice);
+            let mut lines = lines_of(&bound(dice, &vessel, 2));
+            put_slip(dice, &mut vessel, 2);
+            vessel.rows[1].displacement += 1;
+            lines.insert(before, draft::row(&vessel.rows[1]).bytes());
+            text_of(&lines)
+        });
+    }
 }

@@ -3,6 +3,7 @@
 //! that cannot do without; and chance has them in a good part.
 
 use crate::book::Row;
+use crate::corpus::booklets::text_of;
 use crate::corpus::mend::{mend, GREATEST, OPEN};
 use crate::corpus::tests::{judged, named, refused, seeds};
 use crate::corpus::Corpus;
@@ -223,7 +224,7 @@ fn what_lies_between_two_rows_is_not_tested() {
 }
 
 /// Number and line of a text with a slip and something else.
-const ORDER: [(&str, (u8, usize)); 52] = [
+const ORDER: [(&str, (u8, usize)); 56] = [
     ("slip and PastAll in row 1", (2, 2)),
     ("slip and Tag in row 1", (4, 2)),
     ("slip and BodyShort in row 1", (3, 2)),
@@ -279,6 +280,10 @@ const ORDER: [(&str, (u8, usize)); 52] = [
     ("slip in row 1 as C1", (10, 2)),
     ("slip in row 1 as C6", (10, 2)),
     ("slip in row 2 as C6", (10, 3)),
+    ("slip in row 1 and no ship", (4, 1)),
+    ("slip in row 1 behind a whole A3", (4, 2)),
+    ("a row with a slip before the ship", (4, 1)),
+    ("a row with a slip behind the first condition", (4, 5)),
 ];
 
 #[test]
@@ -318,6 +323,32 @@ fn where_10_stands() {
             let name = format!("slip and a condition's {number}");
             assert_eq!(whole(&corpus, &name).map(|place| place.0), Some(10));
         }
+    }
+}
+
+/// Texts with a line whose tag is not due, and with a slip in a row that is
+/// whole and within its limits: the same line, or the one behind an A3. Without
+/// the line that is not due nothing refuses the text as a whole but the slip
+/// behind the A3.
+#[test]
+fn slips_where_a_tag_is_not_due() {
+    for corpus in seeds() {
+        for (name, not_due, slip, without) in [
+            ("slip in row 41 of 41", 42, 42, None),
+            ("slip in row 1 behind a whole A3", 2, 3, Some((10, 2))),
+            ("a row with a slip before the ship", 1, 1, None),
+            ("a row with a slip behind the first condition", 5, 5, None),
+        ] {
+            let text = named(&corpus, name).text;
+            assert_eq!(slips(&text), [slip], "{name}");
+            let mut kept = lines(&text, usize::MAX).expect("lines");
+            kept.remove(not_due - 1);
+            let said = judgements(&text_of(&kept).into()).err();
+            let place = said.map(|refusal| (refusal.number, refusal.line));
+            assert_eq!(place, without, "{name}");
+        }
+        let text = named(&corpus, "slip in row 1 and no ship").text;
+        assert_eq!(slips(&text), [1]);
     }
 }
 
@@ -374,6 +405,23 @@ fn other_cases_have_no_slips() {
             assert_eq!((none, beyond), (None, Some(6)));
         }
     }
+}
+
+/// A small corpus goes without two of the cases about slips.
+#[test]
+fn slips_in_a_small_corpus() {
+    let [kept, all] = [true, false].map(|small| -> Vec<String> {
+        let corpus = Corpus::new(1, small);
+        let names = corpus.names().map(str::to_string);
+        names
+            .skip_while(|name| name != "bend of 400 at 5 degrees")
+            .collect()
+    });
+    let left_out = all.iter().filter(|name| !kept.contains(name));
+    assert!(left_out.eq([
+        "slip in row 40 of 41",
+        "slip in row 41 of 41, past its line"
+    ]));
 }
 
 /// One text in twelve or more has a slip: refused for it, and for what goes
