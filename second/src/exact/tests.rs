@@ -89,7 +89,8 @@ fn whole_values_make_no_difference() {
     }
 }
 
-/// The text that passes all eight by the start on the tenth.
+/// Text 10 passes all eight by document 01's angles, which are whole tenths;
+/// with the exact ones its net is below zero.
 #[test]
 fn the_text_that_sags() {
     let document = numbered("10");
