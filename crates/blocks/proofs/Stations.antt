@@ -52,23 +52,18 @@ smoothLeft kn i = smooth (drop (i - 1) kn)
 
 module _ (kn : List ℕ) (h : length kn ≡ 13) where
   module _ (i : ℕ) (a : 1 ≤ i) (l : i < 12) where
-    three : drop (i - 1) kn ≡ getD kn (i - 1) 0 ∷ getD kn i 0 ∷ getD kn (i + 1) 0 ∷ drop (i + 2) kn
-    three =
-        let p : suc (i - 1) ≡ i = omega arith in
-        let q : suc i ≡ i + 1 = omega arith in
-        let r : suc (i + 1) ≡ i + 2 = omega arith in
-        drop-cons kn (i - 1) 0 (omega arith) ∙ ap (getD kn (i - 1) 0 ∷_) (ap (λ j. drop j kn) p ∙ drop-cons kn i 0 (omega arith) ∙ ap (getD kn i 0 ∷_) (ap (λ j. drop j kn) q ∙ drop-cons kn (i + 1) 0 (omega arith) ∙ ap (λ j. getD kn (i + 1) 0 ∷ drop j kn) r))
-
-    two : drop (i + 1 - 1) kn ≡ getD kn i 0 ∷ getD kn (i + 1) 0 ∷ drop (i + 2) kn
+    two : drop i kn ≡ getD kn i 0 ∷ getD kn (i + 1) 0 ∷ drop (i + 2) kn
     two =
-        let p : i + 1 - 1 ≡ i = omega arith in
         let q : suc i ≡ i + 1 = omega arith in
         let r : suc (i + 1) ≡ i + 2 = omega arith in
-        ap (λ j. drop j kn) p ∙ drop-cons kn i 0 (omega arith) ∙ ap (getD kn i 0 ∷_) (ap (λ j. drop j kn) q ∙ drop-cons kn (i + 1) 0 (omega arith) ∙ ap (λ j. getD kn (i + 1) 0 ∷ drop j kn) r)
+        drop-cons kn i 0 (omega arith) ∙ ap (getD kn i 0 ∷_) (ap (λ j. drop j kn) q ∙ drop-cons kn (i + 1) 0 (omega arith) ∙ ap (λ j. getD kn (i + 1) 0 ∷ drop j kn) r)
+
+    three : drop (i - 1) kn ≡ getD kn (i - 1) 0 ∷ getD kn i 0 ∷ getD kn (i + 1) 0 ∷ drop (i + 2) kn
+    three = let p : suc (i - 1) ≡ i = omega arith in drop-cons kn (i - 1) 0 (omega arith) ∙ ap (getD kn (i - 1) 0 ∷_) (ap (λ j. drop j kn) p ∙ two)
 
     smooth-one : smoothLeft kn i ≡ (unbent (getD kn (i - 1) 0) (getD kn i 0) (getD kn (i + 1) 0) && smoothLeft kn (i + 1))
     unfolding smooth
-    smooth-one = ap smooth three ∙ ap (unbent (getD kn (i - 1) 0) (getD kn i 0) (getD kn (i + 1) 0) &&_) (ap smooth (sym two))
+    smooth-one = let p : i + 1 - 1 ≡ i = omega arith in ap smooth three ∙ ap (unbent (getD kn (i - 1) 0) (getD kn i 0) (getD kn (i + 1) 0) &&_) (ap smooth (sym (ap (λ j. drop j kn) p ∙ two)))
 
     pub smooth-next : unbent (getD kn (i - 1) 0) (getD kn i 0) (getD kn (i + 1) 0) ≡ true → smoothLeft kn i ≡ smoothLeft kn (i + 1)
     smooth-next e = smooth-one ∙ rw e

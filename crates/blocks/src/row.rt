@@ -92,13 +92,19 @@ fn row_fits(r: book::Row) -> bool
     both(fits(r.mass, 100_000, 600_000_000), form)
 }
 
-// 'Some inner KN value, doubled, differs from the sum of its two neighbours by more than 400': not x between a and b.
-fn not_bent(a: u16, x: u16, b: u16) -> bool
+// 'Some inner KN value, doubled, differs from the sum of its two neighbours by more than 400': x, between a and b, does not.
+fn unbent(a: u16, x: u16, b: u16) -> bool
     ensures { λ r. ⌜ r ≡ unbent a x b ⌝ }
 {
     let doubled = 2 * (x as u32);
     let neighbours = a as u32 + b as u32;
-    both(doubled <= neighbours + 400, neighbours <= doubled + 400)
+    if neighbours + 400 < doubled {
+        return false;
+    }
+    if doubled + 400 < neighbours {
+        return false;
+    }
+    true
 }
 
 // None of the inner values does, those at 5 to 55 degrees.
@@ -107,7 +113,7 @@ fn is_smooth(kn: [u16; 13]) -> bool
 {
     let mut i = 1;
     while i < 12 {
-        if !not_bent(kn[i - 1], kn[i], kn[i + 1]) {
+        if !unbent(kn[i - 1], kn[i], kn[i + 1]) {
             return false;
         }
         i = i + 1;

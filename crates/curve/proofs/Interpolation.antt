@@ -2,7 +2,7 @@
 use mathlib.Core.Path.{_≡_, ap, sym, _∙_, subst}
 use mathlib.Core.Bool.{true}
 use mathlib.Core.List.{List, [], _∷_, _++_, map, map-append}
-use Prim.Native.Nat.{ℕ, zero, suc, _-_, _≤_, _<_}
+use Prim.Native.Nat.{ℕ, zero, suc, _+_, _-_, _≤_, _<_}
 use native.Mathlib.Omega.{arith}
 use lib.ListN.{length, getD, take, drop}
 use lib.Seq.{drop-cons, split-at}
@@ -12,7 +12,8 @@ use Rattle.rules.specs.Blocks as rules
 use Rattle.rules.specs.Curve as curve
 use Rattle.rules.proofs.rounding.Rounding.{rounded-unique}
 use Rattle.rules.proofs.rounding.StraightLine.{line-rounded}
-use Rattle.rules.proofs.loading.Rows.{row-follows, column, between-is}
+use Rattle.rules.proofs.layout.Rows.{rising-ok}
+use Rattle.rules.proofs.loading.Rows.{column, between-is}
 use Rattle.rounding.specs.Points.{Between}
 use Rattle.book.specs.Book.{shipOf, rowOf, weatherOf, rowsOf, loadedOf}
 use Rattle.book.specs.declared.Row.{Row}
@@ -29,15 +30,12 @@ pub lies-between : (a b : Row) (w : ℕ) → Neighbours a b w → (v u : ℕ) �
 lies-between a b w n v u h k = record { rise = n .rise; from = n .from; to = n .to; far = mass-most (rowOf b) (n .upper); first = h; second = k }
 
 -- ---- rising rows, by number
-rising-ok : (m : ℕ) (rows : List rules.Row) (d : rules.Row) → Rising m rows → (i : ℕ) → i < length rows → rules.ok rules.row (getD rows i d) ≡ true
-rising-ok m rows d h i l = row-follows m rows d h i l .1 .limits
-
 rising-next : (m : ℕ) (rows : List rules.Row) (d : rules.Row) → Rising m rows → (i : ℕ) → suc i < length rows → getD rows i d .mass < getD rows (suc i) d .mass
 unfolding Rising
 rising-next m [] d h i l = absurd (omega arith)
 rising-next m (r ∷ []) d h i l = absurd (omega arith)
-rising-next m (r ∷ s ∷ rows) d h zero l = h .1 .0 .heavier
-rising-next m (r ∷ s ∷ rows) d h (suc i) l = rising-next (r .mass) (s ∷ rows) d (h .1) i (omega arith)
+rising-next m (r ∷ s ∷ rows) d h zero l = h .2 .1
+rising-next m (r ∷ s ∷ rows) d h (suc i) l = rising-next (r .mass) (s ∷ rows) d (h .2) i (omega arith)
 
 -- ---- the table's straight line at W is that of the two rows around W
 abbrev spot : (rules.Row → ℕ) → rules.Row → Point

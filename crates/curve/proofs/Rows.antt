@@ -50,7 +50,7 @@ in-table-at t w whole =
 heavy : (rows : List rules.Row) (w : ℕ) → 0 < length rows → Rising 0 rows → inTable rows w ≡ true → 0 < w
 unfolding inTable firstMass Rising
 heavy [] w n h e = absurd (omega arith)
-heavy (r ∷ rows) w n h e = omega (arith, h .0 .heavier, leb-true (r .mass) w (both-true (leb (r .mass) w) (leb w (lastMass (r ∷ rows))) e .0))
+heavy (r ∷ rows) w n h e = omega (arith, h .1, leb-true (r .mass) w (both-true (leb (r .mass) w) (leb w (lastMass (r ∷ rows))) e .0))
 
 pub afloat : (t : Table) (w : ℕ) → Whole t → inTable (rowsOf t) w ≡ true → 0 < w
 afloat t w whole = heavy (rowsOf t) w (omega (arith, rows-long t whole, whole .few)) (whole .rising)

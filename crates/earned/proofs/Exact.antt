@@ -61,7 +61,7 @@ module _ (f : Row → ℕ) (w : ℕ) where
   unfolding Rising
   on-row m r [] h e = last r
   on-row m r (s ∷ z) h e =
-      let n = near r s z (omega (arith, h .1 .0 .heavier)) in
+      let n = near r s z (omega (arith, h .2 .1)) in
       n .0 ∙ go (f r) (f s) (r .mass) (s .mass) e ∙ ap (λ (g : ℕ). f r * g) (sym (n .1))
     where
       go : (a b x y : ℕ) → x ≡ w → a * (y - w) + b * (w - x) ≡ a * (y - x)
@@ -73,7 +73,7 @@ module _ (f : Row → ℕ) (w : ℕ) where
     | no n ↦ let k = near r s z (omega arith) in rw (k .0, k .1)
     | yes n ↦ let k = far r s z n in
         let e : s .mass ≡ w = omega arith in
-        rw (k .0, k .1, on-row (r .mass) s z (h .1) e) (go (f r) (f s) (gapFrom s z w) (r .mass) (s .mass) e)
+        rw (k .0, k .1, on-row (r .mass) s z (h .2) e) (go (f r) (f s) (gapFrom s z w) (r .mass) (s .mass) e)
   ]
     where
       go : (a b g x y : ℕ) → y ≡ w → b * g * (y - x) ≡ (a * (y - w) + b * (w - x)) * g
@@ -82,11 +82,11 @@ module _ (f : Row → ℕ) (w : ℕ) where
   -- The rows before do not matter.
   past : (c : Row) (a z : List Row) (r : Row) (m : ℕ) → Rising m (c ∷ (a ++ (r ∷ z))) → r .mass ≤ w → (c .mass ≤ r .mass) × (spanFrom f c (a ++ (r ∷ z)) w ≡ spanFrom f r z w) × (gapFrom c (a ++ (r ∷ z)) w ≡ gapFrom r z w)
   unfolding Rising
-  past c [] z r m h l = let k = far c r z l in (omega (arith, h .1 .0 .heavier), k .0, k .1)
+  past c [] z r m h l = let k = far c r z l in (omega (arith, h .2 .1), k .0, k .1)
   past c (d ∷ a) z r m h l =
-      let i = past d a z r (c .mass) (h .1) l in
+      let i = past d a z r (c .mass) (h .2) l in
       let k = far c d (a ++ (r ∷ z)) (omega arith) in
-      (omega (arith, h .1 .0 .heavier), k .0 ∙ i .1, k .1 ∙ i .2)
+      (omega (arith, h .2 .1), k .0 ∙ i .1, k .1 ∙ i .2)
 
   pub straight : (a z : List Row) (r s : Row) (m : ℕ) → Rising m (a ++ (r ∷ s ∷ z)) → r .mass ≤ w → w ≤ s .mass → spanAt f (a ++ (r ∷ s ∷ z)) w * (s .mass - r .mass) ≡ span (cell f r) (cell f s) w * gapAt (a ++ (r ∷ s ∷ z)) w
   unfolding spanAt gapAt Rising
@@ -95,11 +95,11 @@ module _ (f : Row → ℕ) (w : ℕ) where
     where
       before : (c : Row) (a : List Row) (m : ℕ) → Rising m (c ∷ (a ++ (r ∷ s ∷ z))) → ℕ
       before c [] m h = c .mass
-      before c (d ∷ a) m h = before d a (c .mass) (h .1)
+      before c (d ∷ a) m h = before d a (c .mass) (h .2)
 
       later : (c : Row) (a : List Row) (m : ℕ) (h : Rising m (c ∷ (a ++ (r ∷ s ∷ z)))) → Rising (before c a m h) (r ∷ s ∷ z)
-      later c [] m h = h .1
-      later c (d ∷ a) m h = later d a (c .mass) (h .1)
+      later c [] m h = h .2
+      later c (d ∷ a) m h = later d a (c .mass) (h .2)
 
 -- ---- the exact values are 01's fractions
 abbrev from : ℕ → ℕ → List ℕ
@@ -140,7 +140,7 @@ module _ (R : Reading) (limits : Limits R) (judged : weighed R ≡ got tt) where
     where
       go : (rows : List Row) → 2 ≤ length rows → Rising 0 rows → firstMass rows ≤ weight R → 0 < weight R
       go [] l h k = absurd (omega arith)
-      go (r ∷ rows) l h k = omega (arith, h .0 .heavier)
+      go (r ∷ rows) l h k = omega (arith, h .1)
 
   -- ---- the denominator is one
   pub over-pos : 0 < over R

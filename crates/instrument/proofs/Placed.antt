@@ -17,7 +17,7 @@ use Rattle.rules.proofs.layout.Lines.{length-hex, hex-no-lf, lines-sound}
 use Rattle.rules.proofs.layout.Parts.{full-length}
 use Rattle.rules.proofs.walk.Outcome.{bind-refused, test-got}
 use Rattle.rules.proofs.walk.WholeText.{read-steps}
-use Rattle.rules.proofs.walk.Refusals.{Refusal, given, plain, weaker, bind-refusal, test-cases, UnreadFrom}
+use Rattle.rules.proofs.walk.Refusals.{Refusal, given, plain, weaker, bind-refusal, test-cases, UnreadFrom, UnreadAt}
 use Rattle.rules.proofs.walk.PlaceWithin.{byte-placed, read-placed}
 use Rattle.rules.proofs.booklet.Counted.{countedLines-steps}
 use Rattle.rules.proofs.booklet.Refusals.{counted-refusal, bookFrames-refusal}
@@ -41,11 +41,11 @@ line-at (l ∷ ls) B (suc i) n e h =
     let z : n ≡ 1 + (1 + i) = omega arith in
     rw z (laterLine (hex l) (text ls) (hex-no-lf l) (x .0), x .1)
 
-at-byte : (ls : List (List ℕ)) → Lines ls → length (text ls) ≤ mostCharacters → (i n l o : ℕ) → l ≡ 1 + i → i < length ls → UnreadFrom 2 n → (6 < n → o ≡ 0) → o < length (getD ls i []) → Placed (text ls) n l o
-at-byte ls B c i n l o e h u z g = let x = line-at ls B i l e h in let y = length-hex (getD ls i []) in byte-placed {o = o} u z c (x .0) (omega arith)
+at-byte : (ls : List (List ℕ)) → Lines ls → length (text ls) ≤ mostCharacters → (i n l o : ℕ) → l ≡ 1 + i → i < length ls → UnreadAt 2 n o → o < length (getD ls i []) → Placed (text ls) n l o
+at-byte ls B c i n l o e h u g = let x = line-at ls B i l e h in let y = length-hex (getD ls i []) in byte-placed {o = o} u c (x .0) (omega arith)
 
 at-line : (ls : List (List ℕ)) → Lines ls → length (text ls) ≤ mostCharacters → (n l o : ℕ) → 1 ≤ l → l ≤ length ls → UnreadFrom 2 n → o ≡ 0 → Placed (text ls) n l o
-at-line ls B c n l o h g u e = let i : l - 1 < length ls = omega arith in at-byte ls B c (l - 1) n l o (omega arith) i u (λ z. e) (let x = line-at ls B (l - 1) l (omega arith) i .1 in omega arith)
+at-line ls B c n l o h g u e = let i : l - 1 < length ls = omega arith in at-byte ls B c (l - 1) n l o (omega arith) i (u, λ z. e) (let x = line-at ls B (l - 1) l (omega arith) i .1 in omega arith)
 
 -- ---- for the whole
 counted-placed : (t : List ℕ) → Refusal (Placed t) (countedLines mostCharacters t)
@@ -89,7 +89,7 @@ line-placed a k h n o from to g =
     let w = a .1 in
     let x = behind-length (b .rows) (b .conditions) in
     let y = behind-at (b .rows) (b .conditions) k (length (b .rows) + k) refl in
-    rw (a .2) at (at-byte (linesOf b) (Lines-booklet b (framed w)) (w .long) (suc (length (b .rows) + k)) n (lineNumber b k) o (omega arith) (omega arith) (omega arith) (λ z. absurd (omega arith)) (rw y g))
+    rw (a .2) at (at-byte (linesOf b) (Lines-booklet b (framed w)) (w .long) (suc (length (b .rows) + k)) n (lineNumber b k) o (omega arith) (omega arith) (omega arith) (rw y g))
 
 some-bytes : (l : List ℕ) → getD l 0 0 ≡ conditionTag → 1 ≤ length l
 some-bytes [] e = absurd (omega arith)

@@ -125,7 +125,7 @@ module _ (most : ℕ) (t : List ℕ) (x : TextRead) (e : x ≡ told (countedLine
             booklet = b;
             read = w;
             opens = record {
-              read = ap (readWhole mostCharacters) (sym (s .1)) ∙ complete mostCharacters b (record { hull = L .hull; rising = L .rising; few = L .few; many = L .many; begin = L .begin; some = L .some; atMost = L .atMost; long = omega (arith, L .long) });
+              read = ap (readWhole mostCharacters) (sym (s .1)) ∙ complete mostCharacters b (record { hull = L .hull; rising = L .rising; noSlips = L .noSlips; few = L .few; many = L .many; begin = L .begin; some = L .some; atMost = L .atMost; long = omega (arith, L .long) });
               opening = sym v;
               rows = ap (λ (z : TextRead). z .table) is;
             };

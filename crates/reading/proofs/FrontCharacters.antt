@@ -38,9 +38,9 @@ behind-rows : (vs : List Row) (cs : List (List ℕ)) (p : ℕ) → Rising p vs �
 unfolding behindRows text Rising rowBytes
 behind-rows [] cs p R = refl
 behind-rows (v ∷ vs) cs p R =
-    let l = fixed-line row row-lawful v (R .0 .limits) in
+    let l = fixed-line row row-lawful v (R .0) in
     let k : lineCharacters rowBytes * suc (length vs) ≡ lineCharacters rowBytes + lineCharacters rowBytes * length vs = omega arith in
-    ap (λ n. drop n (text (behindRows (v ∷ vs) cs))) k ∙ behind-line (spellBlock row v) (text (behindRows vs cs)) (lineCharacters rowBytes) (lineCharacters rowBytes * length vs) (omega arith) ∙ behind-rows vs cs (v .mass) (R .1)
+    ap (λ n. drop n (text (behindRows (v ∷ vs) cs))) k ∙ behind-line (spellBlock row v) (text (behindRows vs cs)) (lineCharacters rowBytes) (lineCharacters rowBytes * length vs) (omega arith) ∙ behind-rows vs cs (v .mass) (R .2)
 
 behind-front : (s : Ship) (vs : List Row) (cs : List (List ℕ)) → ok ship s ≡ true → Rising 0 vs → drop (frontCharacters (length vs)) (text (lead s vs cs)) ≡ text cs
 unfolding text shipBytes
@@ -50,10 +50,10 @@ front-long : (vs : List Row) (cs : List (List ℕ)) (p : ℕ) → Rising p vs �
 unfolding behindRows text Rising rowBytes
 front-long [] cs p R = omega arith
 front-long (v ∷ vs) cs p R =
-    let l = fixed-line row row-lawful v (R .0 .limits) in
+    let l = fixed-line row row-lawful v (R .0) in
     let h = length-hex (spellBlock row v) in
     let a = length-append (hex (spellBlock row v)) (LF ∷ text (behindRows vs cs)) in
-    let r = front-long vs cs (v .mass) (R .1) in
+    let r = front-long vs cs (v .mass) (R .2) in
     omega arith
 
 module _ (most : ℕ) (t : List ℕ) (b : Booklet) (e : readWhole most t ≡ got b) where

@@ -19,7 +19,7 @@ use Rattle.rules.specs.Cargo.{MadeCargo, RetaggedLines, RetaggedLine}
 use Rattle.rules.specs.Timber.{TimberLines, TimberLine, conditionBy}
 use Rattle.rules.specs.Booklet.{readWhole, conditionAt}
 use Rattle.rules.specs.Apart.{linesOf, spellBooklet, WholeLimits, AllowedWhole, AllowedLine, LinesWithin, lineAt, alone, respelt, LastAlone, MetWhole, Misplaced, NoCondition, TwentyFifth, lineNumber}
-use Rattle.rules.specs.Mistyped.{FarApart, valueAt, Bent, nthRow, retypedIn, Mistyped}
+use Rattle.rules.specs.Mistyped.{knValue, Bent, FarOff, nthRow, retypedIn, Mistyped}
 use Rattle.rules.specs.Answer.{reportOf, answered, answerAt, answers, answer, inLine, number, written, room}
 use Rattle.rules.proofs.walk.Retagged.{tanks-alike}
 use Rattle.rules.proofs.walk.Timber.{weathers-alike}
@@ -199,7 +199,7 @@ pub two-for-the-whole : (most : ℕ) (t : List ℕ) (ls : List (List ℕ)) → L
 two-for-the-whole most t ls C ln o = two-whole most t ls C ln o
 
 -- A misplaced line of such a text is refused for the whole, at its line and offset 0: with 2 where its frame runs past it or it has one or two bytes, else with 4. Misplaced is what begins with another tag than is due there, the first such line:
--- no A1 in the first line; behind the ship and rows within their limits neither an A2 nor an A3, or an A3 before the second row, or a 41st A2; behind condition lines, whatever these hold, anything that begins with another tag than A3.
+-- no A1 in the first line; behind the ship and rows as they must be neither an A2 nor an A3, or an A3 before the second row, or a 41st A2; behind condition lines, whatever these hold, anything that begins with another tag than A3.
 pub misplaced : (most : ℕ) (t : List ℕ) (ls : List (List ℕ)) → LinesWithin most t ls → (ln : ℕ) (l : List ℕ) → Misplaced ls ln l → (Overruns l → readWhole most t ≡ refused 2 ln 0) × (¬ Overruns l → readWhole most t ≡ refused 4 ln 0)
 misplaced most t ls C ln l m = (two-misplaced most t ls C ln l m, four-misplaced most t ls C ln l m)
 
@@ -207,7 +207,7 @@ misplaced most t ls C ln l m = (two-misplaced most t ls C ln l m, four-misplaced
 pub four-for-the-whole : (most : ℕ) (t : List ℕ) (ls : List (List ℕ)) → LinesWithin most t ls → (ln o : ℕ) → (readWhole most t ≡ refused 4 ln o) ↔ ((o ≡ 0) × (l : List ℕ) × Misplaced ls ln l × (¬ Overruns l))
 four-for-the-whole most t ls C ln o = four-whole most t ls C ln o
 
--- Every text is refused with 5 for the whole exactly where it is lines within its limit of which one is the 25th that begins with A3, at that line, whatever else it holds; or where at most 24 do, and the text is empty (line 0) or ends behind the ship and rows within their limits, at the number of its lines.
+-- Every text is refused with 5 for the whole exactly where it is lines within its limit of which one is the 25th that begins with A3, at that line, whatever else it holds; or where at most 24 do, and the text is empty (line 0) or ends behind the ship and rows as they must be, at the number of its lines.
 pub five-for-the-whole : (most : ℕ) (t : List ℕ) (l o : ℕ) → (readWhole most t ≡ refused 5 l o) ↔ ((o ≡ 0) × (TwentyFifth most t l ⊎ ((ls : List (List ℕ)) × LinesWithin most t ls × NoCondition ls l)))
 five-for-the-whole most t l o = five-whole most t l o
 
@@ -237,15 +237,15 @@ lines-before-blocks most t n l o e one five = lines-of-refused most t n l o e on
 -- ---- typing slips
 -- In a row that is read a value that is wrong by more than 400 against the straight line of its neighbours, doubled, cannot stand.
 pub typing-slip : (most : ℕ) (t : List ℕ) (b : Booklet) → readWhole most t ≡ got b → (k i : ℕ) → k < length (b .rows) → 1 ≤ i → i ≤ 11 → ¬ Bent (nthRow (b .rows) k .kn) i
-typing-slip most t b e = no-slip (b .rows) (whole.sound most t b e .0 .rising)
+typing-slip most t b e = let w = whole.sound most t b e .0 in no-slip (b .rows) (w .rising) (w .noSlips)
 
--- So a row that is read and one that differs from it in a single inner value, by more than 400, are not both read, in whatever texts they stand.
-pub not-both-read : (most most′ : ℕ) (t t′ : List ℕ) (b b′ : Booklet) → readWhole most t ≡ got b → readWhole most′ t′ ≡ got b′ → (k k′ i x : ℕ) → k < length (b .rows) → k′ < length (b′ .rows) → 1 ≤ i → i ≤ 11
-    → nthRow (b′ .rows) k′ .kn ≡ set (nthRow (b .rows) k .kn) i x → ¬ FarApart (valueAt (nthRow (b .rows) k .kn) i) x
-not-both-read most most′ t t′ b b′ e e′ = no-two (b .rows) (b′ .rows) (whole.sound most t b e .0 .rising) (whole.sound most′ t′ b′ e′ .0 .rising)
+-- So a row that is read and one that differs from it in a single value, at 5 to 55 degrees by more than 400 or at 60 degrees by more than 800, are not both read, in whatever texts they stand.
+pub not-both-read : (most most′ : ℕ) (t t′ : List ℕ) (b b′ : Booklet) → readWhole most t ≡ got b → readWhole most′ t′ ≡ got b′ → (k k′ i x : ℕ) → k < length (b .rows) → k′ < length (b′ .rows)
+    → nthRow (b′ .rows) k′ .kn ≡ set (nthRow (b .rows) k .kn) i x → ¬ FarOff i (knValue (nthRow (b .rows) k .kn) i) x
+not-both-read most most′ t t′ b b′ e e′ = let w = whole.sound most t b e .0 in let w′ = whole.sound most′ t′ b′ e′ .0 in no-two (b .rows) (b′ .rows) (w .rising) (w .noSlips) (w′ .rising) (w′ .noSlips)
 
--- And the one typed wrong is caught: take a text that is read, one of its rows and one inner value of it; let that value be another, within its limits and more than 400 off, and all else the same. That text is refused for the whole, with 10 at that row's line.
-pub slip-caught : (most : ℕ) (t : List ℕ) (b : Booklet) → readWhole most t ≡ got b → (k i x : ℕ) → k < length (b .rows) → 1 ≤ i → i ≤ 11 → x ≤ 30_000 → FarApart (valueAt (nthRow (b .rows) k .kn) i) x
+-- And the one typed wrong is caught: take a text that is read, one of its rows and one value of it; let that value be another, within its limits and as far off as that, and all else the same. That text is refused for the whole, with 10 at that row's line.
+pub slip-caught : (most : ℕ) (t : List ℕ) (b : Booklet) → readWhole most t ≡ got b → (k i x : ℕ) → k < length (b .rows) → x ≤ 30_000 → FarOff i (knValue (nthRow (b .rows) k .kn) i) x
     → readWhole most (spellBooklet (retypedIn b k i x)) ≡ refused 10 (2 + k) 0
 slip-caught most t b e = retyped-refused most t b e
 

@@ -15,7 +15,7 @@ use Rattle.rules.specs.Loading.{flat, mass, moment, freeSurfaceOf, freeS
 use Rattle.rules.specs.Leaves.{sumLeaves, ungrouped, loadedWith}
 use Rattle.rules.specs.Cargo.{MadeCargo, RetaggedLines}
 use Rattle.rules.specs.Timber.{TimberLines, readingBy}
-use Rattle.rules.specs.Mistyped.{Bent, nthRow}
+use Rattle.rules.specs.Mistyped.{Bent, nthRow, Mistyped}
 use Rattle.rules.specs.Places.{LinesFill, SameBefore, lookedAt, LineAt, Placed}
 use Rattle.rules.specs.Met.{Met, Overruns, NoLF, NoLine, FirstNoLine}
 use Rattle.rules.specs.Answer.{judged, answered}
@@ -28,6 +28,7 @@ use Rattle.rules.proofs.loading.Cargo.{cargo-moment, empty-none, slack-
 use Rattle.rules.proofs.walk.Retagged.{refused-alike, read-made-cargo, retagged-lines}
 use Rattle.rules.proofs.walk.Timber as weathers
 use Rattle.rules.proofs.walk.OnlyOverrun.{two-overrun}
+use Rattle.rules.proofs.walk.TypingSlips.{ten-slip}
 use Rattle.rules.proofs.bench.Drawing.{drawing, drawing-refused}
 use Rattle.rules.proofs.walk.FirstFault.{fault-stands}
 use Rattle.rules.proofs.walk.BadLine.{bad-line, open-line, one-no-line, one-too-long, lines-unless-one}
@@ -53,7 +54,7 @@ refusal-number t n l o e = number-of-refusal t e
 
 -- In a row that is read a value that is wrong by more than 400 against the straight line of its neighbours, doubled, cannot stand.
 pub typing-slip : (t : List ℕ) (r : Reading) → read t ≡ got r → (k i : ℕ) → k < length (r .rows) → 1 ≤ i → i ≤ 11 → ¬ Bent (nthRow (r .rows) k .kn) i
-typing-slip t r e = no-slip (r .rows) (sound t r e .0 .rising)
+typing-slip t r e = let l = sound t r e .0 in no-slip (r .rows) (l .rising) (l .noSlips)
 
 -- ---- where its blocks stand
 -- In a reading every block lies wholly inside its parent's body, and the blocks of a parent stand end to end and fill it:
@@ -150,6 +151,10 @@ overrun-never-read ls ln o left B l m v = not-both (text ls) 2 ln o (overrun-ref
 -- The surveyor's drawing, a group of tanks whose length runs past its parent but not past the line, is refused so.
 pub drawing-is-refused : read drawing ≡ refused 2 4 21
 drawing-is-refused = drawing-refused
+
+-- A text of lines within 180,000 characters is refused with 10 exactly where a line is a row with a typing slip, at that line and offset 0.
+pub ten-iff-slip : (ls : List (List ℕ)) → Lines ls → length (text ls) ≤ mostCharacters → (ln o : ℕ) → (read (text ls) ≡ refused 10 ln o) ↔ ((o ≡ 0) × Mistyped ls ln)
+ten-iff-slip ls B c ln o = ten-slip ls B c ln o
 
 -- A refusal depends on nothing behind the block that it names. Two texts of lines within 180,000 characters have the same lines before the one that is named; that line has one length in both (it is its frame's parent)
 -- and the same bytes up to the end of the named block (for 2, 4 and 3: of its head); all that stands behind, in the line and in further lines, may differ: the refusal is the same.

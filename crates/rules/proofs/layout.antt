@@ -6,6 +6,7 @@ pub mod LineAt
 pub mod Parts
 pub mod Edges
 pub mod Counts
+pub mod Rows
 pub mod Smooth
 pub mod InsideParent
 pub mod OtherTag

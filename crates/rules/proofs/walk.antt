@@ -4,6 +4,7 @@ pub mod Heads
 pub mod Entries
 pub mod Conditions
 pub mod Frames
+pub mod Led
 pub mod WholeText
 pub mod Refusals
 pub mod Fuel
@@ -11,6 +12,7 @@ pub mod BlockExits
 pub mod FrameExits
 pub mod Overrun
 pub mod OnlyOverrun
+pub mod TypingSlips
 pub mod HeadAlone
 pub mod SameBefore
 pub mod EntryFault

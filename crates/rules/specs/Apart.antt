@@ -8,7 +8,7 @@ use lib.ListN.{length, getD, set}
 use Rattle.rules.specs.Numbers.{Bytes}
 use Rattle.rules.specs.Text.{text, Lines}
 use Rattle.rules.specs.Blocks.{block, ok, Ship, ship, Row, row, conditionTag}
-use Rattle.rules.specs.Layout.{Condition, Reading, spellCondition, Rising, fewestRows, mostRows, mostConditions, ConditionLimits, conditionLines, Booklet}
+use Rattle.rules.specs.Layout.{Condition, Reading, spellCondition, Rising, NoSlips, fewestRows, mostRows, mostConditions, ConditionLimits, conditionLines, Booklet}
 use Rattle.rules.specs.Met.{Led, lead}
 
 -- Lines of bytes that begin with A3, whatever else they hold.
@@ -26,6 +26,7 @@ spellBooklet b = text (linesOf b)
 pub record WholeLimits (most : ℕ) (b : Booklet) : Type 0 where
   pub hull : ok ship (b .ship) ≡ true
   pub rising : Rising 0 (b .rows)
+  pub noSlips : NoSlips (b .rows)
   pub few : fewestRows ≤ length (b .rows)
   pub many : length (b .rows) ≤ mostRows
   pub begin : BeginA3 (b .conditions)
@@ -40,7 +41,7 @@ pub record LinesWithin (most : ℕ) (t : List ℕ) (ls : List (List ℕ)) : Type
   pub long : length t ≤ most
   pub atMost : conditionLines ls ≤ mostConditions
 
--- A text is allowed as a whole when it spells a ship and rows within the limits, and behind them lines that begin with A3.
+-- A text is allowed as a whole when it spells a ship and rows within the limits, no row with a typing slip, and behind them lines that begin with A3.
 abbrev pub AllowedWhole : ℕ → List ℕ → Type 0
 AllowedWhole most t = (b : Booklet) × WholeLimits most b × (spellBooklet b ≡ t)
 

@@ -93,12 +93,18 @@ row = record {
   further = no-more;
 }
 
--- 'Some inner KN value, doubled, differs from the sum of its two neighbours by more than 400' (request 4) is what this rules out, of a value x between a and b. It is asked beside the limits, for it has a number of its own.
+-- 'Some inner KN value, doubled, differs from the sum of its two neighbours by more than 400' (request 4) is what this rules out, of a value x between a and b: it lies neither too high nor too low. It is asked beside the limits, for it has a number of its own.
 abbrev pub mostBend : ℕ
 mostBend = 400
 
+abbrev pub notTooHigh : ℕ → ℕ → ℕ → Bool
+notTooHigh a x b = leb (2 * x) (a + b + mostBend)
+
+abbrev pub notTooLow : ℕ → ℕ → ℕ → Bool
+notTooLow a x b = leb (a + b) (2 * x + mostBend)
+
 abbrev pub unbent : ℕ → ℕ → ℕ → Bool
-unbent a x b = leb (2 * x) (a + b + mostBend) && leb (a + b) (2 * x + mostBend)
+unbent a x b = notTooHigh a x b && notTooLow a x b
 
 -- Of values side by side: the first and the last have one neighbour only.
 unfoldable pub smooth : List ℕ → Bool

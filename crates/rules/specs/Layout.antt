@@ -84,15 +84,15 @@ Good end = Unit {0}
 Good (leaf k v r) = (ok (entry k) v ≡ true) × Good r
 Good (group g r) = (some g ≡ true) × Good g × Good r
 
--- What a row must be behind one with W = p: within its limits, 'W .. strictly rising by row', and smooth (request 4).
-pub record Follows (p : ℕ) (v : Row) : Type 0 where
-  pub limits : ok row v ≡ true
-  pub heavier : p < v .mass
-  pub even : smooth (v .kn) ≡ true
-
+-- 'W .. strictly rising by row', each row within its limits.
 unfoldable pub Rising : ℕ → List Row → Type 0
 Rising p [] = Unit {0}
-Rising p (v ∷ vs) = Follows p v × Rising (v .mass) vs
+Rising p (v ∷ vs) = (ok row v ≡ true) × (p < v .mass) × Rising (v .mass) vs
+
+-- No row 'in which some inner KN value, doubled, differs from the sum of its two neighbours by more than 400' (request 4).
+unfoldable pub NoSlips : List Row → Type 0
+NoSlips [] = Unit {0}
+NoSlips (v ∷ vs) = (smooth (v .kn) ≡ true) × NoSlips vs
 
 abbrev pub fewestRows : ℕ
 fewestRows = 2
@@ -127,6 +127,7 @@ pub record ConditionLimits (c : Condition) : Type 0 where
 pub record Limits (r : Reading) : Type 0 where
   pub hull : ok ship (r .ship) ≡ true
   pub rising : Rising 0 (r .rows)
+  pub noSlips : NoSlips (r .rows)
   pub few : fewestRows ≤ length (r .rows)
   pub many : length (r .rows) ≤ mostRows
   pub loaded : ConditionLimits (r .condition)

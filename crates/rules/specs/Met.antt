@@ -1,5 +1,5 @@
 -- 'Blocks as they begin, first byte to last': which blocks the reading of a text comes to, said with no reader.
--- A block is met where all that stands before it keeps the layout and the limits. What stands behind it may be anything. So with the first line that is none.
+-- A block is met where all that stands before it is as it must be. What stands behind it may be anything. So with the first line that is none.
 use mathlib.Core.Path.{_≡_}
 use mathlib.Core.Logic.{_≢_}
 use mathlib.Core.Bool.{true}
@@ -9,7 +9,7 @@ use lib.ListN.{length}
 use Rattle.rules.specs.Numbers.{Bytes, full}
 use Rattle.rules.specs.Text.{LF, hex, text, Lines}
 use Rattle.rules.specs.Blocks.{block, ok, spellBlock, Ship, ship, Row, row, conditionTag, Weather, okWeather, spellWeather, groupTag}
-use Rattle.rules.specs.Layout.{Entries, Condition, spell, spellCondition, leaves, depth, Good, Rising, fewestRows, mostRows, mostDepth, mostEntries, mostBytes, ConditionLimits}
+use Rattle.rules.specs.Layout.{Entries, Condition, spell, spellCondition, leaves, depth, Good, Rising, NoSlips, fewestRows, mostRows, mostDepth, mostEntries, mostBytes, ConditionLimits}
 use Rattle.rules.specs.Parts.{be2}
 
 -- ---- among entries
@@ -27,10 +27,11 @@ pub data Meets : ℕ → ℕ → ℕ → List ℕ → ℕ → List ℕ → Type 
       → Meets d n at (spell F ++ (block groupTag body ++ rest)) o left
 
 -- ---- among frames
--- A ship and rows within their limits.
+-- A ship and rows as they must be: within their limits, and no row with a typing slip.
 pub record Led (s : Ship) (vs : List Row) : Type 0 where
   pub hull : ok ship s ≡ true
   pub rising : Rising 0 vs
+  pub noSlips : NoSlips vs
   pub many : length vs ≤ mostRows
 
 -- The lines of rows, and others behind them; the same with the ship's line in front.

@@ -10,24 +10,31 @@ use Rattle.rules.specs.Layout.{mostRows, Booklet}
 use Rattle.rules.specs.Loading.{lastMass}
 use Rattle.rules.specs.Met.{Led, lead}
 
--- Two numbers are more than 400 apart.
-abbrev pub FarApart : ℕ → ℕ → Type 0
-FarApart x y = (x + 400 < y) ⊎ (y + 400 < x)
+-- Two numbers are more than m apart.
+abbrev pub FarApart : ℕ → ℕ → ℕ → Type 0
+FarApart m x y = (x + m < y) ⊎ (y + m < x)
 
 -- KN value i of a row, at 5 i degrees; and the sum of its two neighbours.
-abbrev pub valueAt : List ℕ → ℕ → ℕ
-valueAt kn i = getD kn i 0
+abbrev pub knValue : List ℕ → ℕ → ℕ
+knValue kn i = getD kn i 0
 
 abbrev pub neighbours : List ℕ → ℕ → ℕ
-neighbours kn i = valueAt kn (i - 1) + valueAt kn (i + 1)
+neighbours kn i = knValue kn (i - 1) + knValue kn (i + 1)
 
 -- 'Doubled, differs from the sum of its two neighbours by more than 400.'
 abbrev pub Bent : List ℕ → ℕ → Type 0
-Bent kn i = FarApart (2 * valueAt kn i) (neighbours kn i)
+Bent kn i = FarApart 400 (2 * knValue kn i) (neighbours kn i)
 
--- Row k, from 0, where there is one.
+-- Station i has y for x, and is far off: by more than 400 at an inner station, those at 5 to 55 degrees, which is tested against two neighbours; by more than 800 at 60 degrees, which counts once as a neighbour. (At 0 degrees KN is 0.)
+abbrev pub FarOff : ℕ → ℕ → ℕ → Type 0
+FarOff i x y = (1 ≤ i) × (((i ≤ 11) × FarApart 400 x y) ⊎ ((i ≡ 12) × FarApart 800 x y))
+
+-- Row k, from 0, and what stands for one beyond the last.
+abbrev pub absentRow : Row
+absentRow = record { mass = 0; draught = 0; km = 0; kn = [] }
+
 abbrev pub nthRow : List Row → ℕ → Row
-nthRow rows k = getD rows k (record { mass = 0; draught = 0; km = 0; kn = [] })
+nthRow rows k = getD rows k absentRow
 
 -- A row with another KN value at station i; rows, with that in the place of row k; and a booklet with such rows.
 abbrev pub retyped : ℕ → ℕ → Row → Row

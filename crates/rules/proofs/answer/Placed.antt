@@ -27,15 +27,17 @@ place-within t n l o e = placed .holds n l o e
     placed : Refusal (Placed t) (answered t)
     placed = rw (answered-steps t) (bind-refusal _ _ (read-placed t) (λ r er. weaker (λ n l o x. rw (x .2, x .3) (unweighed (x .0) (x .1))) (judged-refusal r)))
 
--- Read the other way: 1 has offset 0; 2 to 6 and 10 name a byte of one of the text's own lines, and both its characters stand there, or the text is empty; with 10 it is the first byte.
-pub one-at-front : {t : List ℕ} {n l o : ℕ} → Placed t n l o → n ≡ 1 → o ≡ 0
-one-at-front (tooLong h) e = refl
-one-at-front (atLine c x) e = refl
-one-at-front (emptyText z) e = refl
-one-at-front (atByte a b c x h) e = absurd (omega arith)
-one-at-front (atRow c x h) e = refl
-one-at-front (unweighed a b) e = refl
+-- ---- read the other way
+-- Only 2 to 6 have an offset but 0.
+pub others-at-front : {t : List ℕ} {n l o : ℕ} → Placed t n l o → ((2 ≤ n) × (n ≤ 6) → ⊥) → o ≡ 0
+others-at-front (tooLong h) f = refl
+others-at-front (atLine c x) f = refl
+others-at-front (emptyText e) f = refl
+others-at-front (atByte a b c x h) f = absurd (f (a, b))
+others-at-front (atRow c x h) f = refl
+others-at-front (unweighed a b) f = refl
 
+-- 2 to 6 and 10 name a byte of one of the text's own lines, and both its characters stand there, or the text is empty.
 pub byte-of-line : {t : List ℕ} {n l o : ℕ} → Placed t n l o → 2 ≤ n → Unread n → (t ≡ []) ⊎ ((p : List ℕ) × LineAt t l p × (2 * o + 2 ≤ length p))
 byte-of-line (tooLong h) from to = absurd (omega arith)
 byte-of-line (atLine c x) from to = absurd (omega arith)
@@ -44,10 +46,11 @@ byte-of-line (atByte {p = p} a b c x h) from to = inr (p, x, omega arith)
 byte-of-line (atRow {p = p} c x h) from to = inr (p, x, omega arith)
 byte-of-line (unweighed a b) from to = absurd (omega arith)
 
-pub ten-at-front : {t : List ℕ} {n l o : ℕ} → Placed t n l o → n ≡ 10 → o ≡ 0
-ten-at-front (tooLong h) e = refl
-ten-at-front (atLine c x) e = refl
-ten-at-front (emptyText z) e = refl
-ten-at-front (atByte a b c x h) e = absurd (omega arith)
-ten-at-front (atRow c x h) e = refl
-ten-at-front (unweighed a b) e = refl
+-- Where a line is named the text is within 180,000 characters.
+pub named-within : {t : List ℕ} {n l o : ℕ} → Placed t n l o → 1 ≤ l → length t ≤ 180_000
+named-within (tooLong h) f = absurd (omega arith)
+named-within (atLine c x) f = c
+named-within (emptyText e) f = absurd (omega arith)
+named-within (atByte a b c x h) f = c
+named-within (atRow c x h) f = c
+named-within (unweighed a b) f = absurd (omega arith)

@@ -8,13 +8,13 @@ use Rattle.rules.specs.Layout.{mostCharacters}
 use Rattle.rules.specs.Report.{concat}
 use Rattle.rules.specs.Answer.{number, bytesSent, written, room}
 use Rattle.rules.proofs.bench.Cases.{lines, refusal}
-use Rattle.rules.proofs.bench.Bench.{ship, row1, row2, P1, P1-output}
+use Rattle.rules.proofs.bench.Bench.{ship, row1, row2, P1, P1-condition, P1-output}
 use Rattle.rules.proofs.bench.TimberDeck.{coaster-output, coaster-timber-output}
 
 -- ---- texts
 -- P1's condition; with the length of its C2 a byte too much, and a byte too little; with a mass below the table's first row.
 abbrev fine : String
-fine = "A30018C1000C000009C40FA002BC01F400C8C2000600155CC00FA0"
+fine = P1-condition
 
 abbrev overrun : String
 overrun = "A30018C1000C000009C40FA002BC01F400C8C2000700155CC00FA0"

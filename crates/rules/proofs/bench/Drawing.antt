@@ -5,7 +5,7 @@ use Prim.Native.Nat.{ℕ, _-_, _≤_}
 use native.Mathlib.Omega.{arith}
 use lib.ListN.{length}
 use Rattle.rules.specs.Blocks.{block, spellValues, within, ok, spellBlock, Ship, Row, smooth, conditionTag, code, Weather, spellWeather, Tank, ordinary, tank, entry, groupTag}
-use Rattle.rules.specs.Layout.{end, spell, leaves, Rising, mostDepth, mostEntries, mostCharacters}
+use Rattle.rules.specs.Layout.{end, spell, leaves, Rising, NoSlips, mostDepth, mostEntries, mostCharacters}
 use Rattle.rules.specs.Outcome.{refused, got}
 use Rattle.rules.specs.Walk.{linesFrom, read}
 use Rattle.rules.specs.Met.{behind, nestedIn, behindRows, lead, Met, entryBlock, Overruns}
@@ -46,9 +46,9 @@ drawn-is = refl
 
 -- The inner group is met at line 4 and offset 21, and 20 bytes of its parent are left.
 drawn-met : Met drawn 4 21 held
-unfolding block spellBlock spellValues spell leaves Rising ok within smooth
+unfolding block spellBlock spellValues spell leaves Rising NoSlips ok within smooth
 drawn-met =
-    entryBlock hull rows sky (block groupTag held ++ spellBlock (entry (tank ordinary)) aTank) [] (record { hull = refl; rising = (record { limits = refl; heavier = omega arith; even = refl }, (record { limits = refl; heavier = omega arith; even = refl }, tt)); many = omega arith }) (omega arith) refl (omega arith)
+    entryBlock hull rows sky (block groupTag held ++ spellBlock (entry (tank ordinary)) aTank) [] (record { hull = refl; rising = (refl, omega arith, (refl, omega arith, tt)); noSlips = (refl, (refl, tt)); many = omega arith }) (omega arith) refl (omega arith)
     (nestedIn end held (spellBlock (entry (tank ordinary)) aTank) (none-pass mostDepth mostEntries) (omega arith) (behind end held (none-pass (mostDepth - 1) mostEntries)))
 
 drawn-overruns : Overruns held

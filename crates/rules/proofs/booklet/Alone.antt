@@ -91,7 +91,7 @@ module _ (b : Booklet) (k : ℕ) (h : k < length (b .conditions)) where
         let p = length-lead (b .ship) (b .rows) (b .conditions) in
         let q = length-lead (b .ship) (b .rows) (lineAt b k ∷ []) in
         let r = one-of (b .conditions) k h in
-        complete most (alone b (lineAt b k)) (record { hull = w .hull; rising = w .rising; few = w .few; many = w .many; begin = begin-at (b .conditions) k (w .begin) h; some = omega arith; atMost = omega arith; long = omega (arith, w .long) })
+        complete most (alone b (lineAt b k)) (record { hull = w .hull; rising = w .rising; noSlips = w .noSlips; few = w .few; many = w .many; begin = begin-at (b .conditions) k (w .begin) h; some = omega arith; atMost = omega arith; long = omega (arith, w .long) })
 
     -- 'A fault in a condition line spoils its own report only': whatever begins with A3 may stand there instead, and every other report is as it was.
     pub spoils-its-own : (l : List ℕ) → getD l 0 0 ≡ conditionTag → Bytes l → length (spellBooklet (respelt b k l)) ≤ most
@@ -99,6 +99,6 @@ module _ (b : Booklet) (k : ℕ) (h : k < length (b .conditions)) where
     spoils-its-own l a B m =
         let w = sound most t b e .0 in
         let n : length (set (b .conditions) k l) ≡ length (b .conditions) = length-set (b .conditions) k l in (
-          complete most (respelt b k l) (record { hull = w .hull; rising = w .rising; few = w .few; many = w .many; begin = begin-set (b .conditions) k l (w .begin) a B; some = omega (arith, w .some); atMost = omega (arith, w .atMost); long = m }),
+          complete most (respelt b k l) (record { hull = w .hull; rising = w .rising; noSlips = w .noSlips; few = w .few; many = w .many; begin = begin-set (b .conditions) k l (w .begin) a B; some = omega (arith, w .some); atMost = omega (arith, w .atMost); long = m }),
           others-answered b k l,
         )

@@ -10,7 +10,7 @@ use borrow.Author.Tests.{ltb-true, leb-true, eqb-true, lt-ltb, le-leb}
 use Rattle.rules.specs.Numbers.{Bytes, full}
 use Rattle.rules.specs.Text.{Lines}
 use Rattle.rules.specs.Blocks.{block, spellValues, ok, spellBlock, ship, Row, row, smooth, conditionTag}
-use Rattle.rules.specs.Layout.{Follows, Rising, fewestRows, mostRows, isCondition, Booklet}
+use Rattle.rules.specs.Layout.{Rising, NoSlips, fewestRows, mostRows, isCondition, Booklet}
 use Rattle.rules.specs.Outcome.{refused, got}
 use Rattle.rules.specs.Walk.{rowIn, closed}
 use Rattle.rules.specs.Met.{behindRows}
@@ -19,11 +19,11 @@ use Rattle.rules.specs.Apart.{BeginA3, linesOf, WholeLimits}
 use Rattle.rules.proofs.layout.Fields.{length-fits, ship-lawful, row-lawful, both-true}
 use Rattle.rules.proofs.walk.Outcome.{refused-got, bind-inv, test-inv, bind-got, test-got}
 use Rattle.rules.proofs.walk.Heads.{Bytes-fixed}
-use Rattle.rules.proofs.walk.Frames.{frame-got, rowIn-sound, rowHead, rowIn-got, rowIn-slip, ship-sound, ship-got}
+use Rattle.rules.proofs.walk.Frames.{frame-got, RowPasses, rowIn-sound, rowHead, rowIn-got, rowIn-slip, ship-sound, ship-got}
 use Rattle.rules.proofs.booklet.Counted.{begins, only-a3, only-other, behind-a3, behind-row}
 
 -- ---- a row
-pub row-sound : (ln k p : ℕ) (l : List ℕ) (v : Row) → Bytes l → rowAt ln k p l ≡ got v → (spellBlock row v ≡ l) × Follows p v × (k < mostRows)
+pub row-sound : (ln k p : ℕ) (l : List ℕ) (v : Row) → Bytes l → rowAt ln k p l ≡ got v → (spellBlock row v ≡ l) × RowPasses p v × (k < mostRows)
 unfolding rowAt spellBlock
 row-sound ln k p l v B e =
     let h = bind-inv _ _ e in
@@ -38,8 +38,8 @@ unfolding rowAt spellBlock
 row-begun ln k p v e m =
     bind-got _ (frame-got ln (row .tag) (spellValues (row .fields) (row .listed v)) (length-fits row row-lawful v e)) ∙ test-got _ _ _ _ refl ∙ test-got _ _ _ _ (lt-ltb k mostRows m)
 
-pub row-got : (ln k p : ℕ) (v : Row) → Follows p v → k < mostRows → rowAt ln k p (spellBlock row v) ≡ got v
-row-got ln k p v F m = row-begun ln k p v (F .limits) m ∙ rowIn-got ln p v F
+pub row-got : (ln k p : ℕ) (v : Row) → RowPasses p v → k < mostRows → rowAt ln k p (spellBlock row v) ≡ got v
+row-got ln k p v F m = row-begun ln k p v (F .0) m ∙ rowIn-got ln p v F
 
 pub row-slip : (ln k p : ℕ) (v : Row) → ok row v ≡ true → p < v .mass → smooth (v .kn) ≡ false → k < mostRows → rowAt ln k p (spellBlock row v) ≡ refused 10 ln 0
 row-slip ln k p v e r s m = row-begun ln k p v e m ∙ rowIn-slip ln p v e r s
@@ -64,13 +64,14 @@ only-got (l ∷ ls) B ln = only-a3 l ls ln (begins l (B .0)) ∙ only-got ls (B 
 record Told (k p : ℕ) (x : Behind) (ls : List (List ℕ)) : Type 0 where
   spells : behindRows (x .rows) (x .conditions) ≡ ls
   rising : Rising p (x .rows)
+  noSlips : NoSlips (x .rows)
   few : fewestRows ≤ k + length (x .rows)
   many : length (x .rows) ≤ mostRows - k
   begin : BeginA3 (x .conditions)
   some : 1 ≤ length (x .conditions)
 
 behind-sound : (ls : List (List ℕ)) → Lines ls → (ln k p : ℕ) (x : Behind) → behindShip ls ln k p ≡ got x → Told k p x ls
-unfolding behindShip Lines BeginA3 behindRows Rising
+unfolding behindShip Lines BeginA3 behindRows Rising NoSlips
 behind-sound [] B ln k p x e = refused-got e
 behind-sound (l ∷ ls) B ln k p x e = go (behind-sound ls (B .2)) (isCondition l && leb fewestRows k) refl
   where
@@ -80,27 +81,27 @@ behind-sound (l ∷ ls) B ln k p x e = go (behind-sound ls (B .2)) (isCondition 
         let i : (isCondition l ≡ true) × (leb fewestRows k ≡ true) = both-true _ _ q in
         let f = leb-true fewestRows k (i .1) in
         let z : _≡_ {A = Behind} (record { rows = []; conditions = l ∷ ls }) x = cc in
-        rw (← z) (record { spells = refl; rising = tt; few = omega arith; many = omega arith; begin = (eqb-true _ _ (i .0), B .1, only-sound ls (B .2) _ (a .0) (a .1)); some = omega arith })
+        rw (← z) (record { spells = refl; rising = tt; noSlips = tt; few = omega arith; many = omega arith; begin = (eqb-true _ _ (i .0), B .1, only-sound ls (B .2) _ (a .0) (a .1)); some = omega arith })
     go H false q =
         let a = bind-inv _ _ (sym (behind-row l ls ln k p q) ∙ e) in
         let y = bind-inv _ _ (a .2) in
         let r = row-sound ln k p l (a .0) (B .1) (a .1) in
         let t = H _ _ _ (y .0) (y .1) in
         let z : _≡_ {A = Behind} (record { rows = a .0 ∷ y .0 .rows; conditions = y .0 .conditions }) x = cc in
-        rw (← z) (record { spells = ap₂ _∷_ (r .0) (t .spells); rising = (r .1, t .rising); few = omega (arith, t .few); many = omega (arith, t .many, r .2); begin = t .begin; some = t .some })
+        rw (← z) (record { spells = ap₂ _∷_ (r .0) (t .spells); rising = (r .1 .0, r .1 .1, t .rising); noSlips = (r .1 .2, t .noSlips); few = omega (arith, t .few); many = omega (arith, t .many, r .2); begin = t .begin; some = t .some })
 
 pub not-a3 : (k : ℕ) (v : Row) → (isCondition (spellBlock row v) && leb fewestRows k) ≡ false
 unfolding spellBlock block
 not-a3 k v = refl
 
-behind-got : (vs : List Row) (cs : List (List ℕ)) (ln k p : ℕ) → Rising p vs → fewestRows ≤ k + length vs → length vs ≤ mostRows - k → BeginA3 cs → 1 ≤ length cs
+behind-got : (vs : List Row) (cs : List (List ℕ)) (ln k p : ℕ) → Rising p vs → NoSlips vs → fewestRows ≤ k + length vs → length vs ≤ mostRows - k → BeginA3 cs → 1 ≤ length cs
     → behindShip (behindRows vs cs) ln k p ≡ got (record { rows = vs; conditions = cs })
-unfolding behindRows Rising BeginA3
-behind-got [] [] ln k p R f m B s = absurd (omega arith)
-behind-got [] (l ∷ ls) ln k p R f m B s = behind-a3 l ls ln k p (rw (begins l (B .0), le-leb fewestRows k (omega arith))) ∙ bind-got _ (only-got ls (B .2) (ln + 1))
-behind-got (v ∷ vs) cs ln k p R f m B s =
-    behind-row (spellBlock row v) (behindRows vs cs) ln k p (not-a3 k v) ∙ bind-got _ (row-got ln k p v (R .0) (omega arith))
-    ∙ bind-got _ (behind-got vs cs (ln + 1) (k + 1) (v .mass) (R .1) (omega arith) (omega arith) B s)
+unfolding behindRows Rising NoSlips BeginA3
+behind-got [] [] ln k p R S f m B s = absurd (omega arith)
+behind-got [] (l ∷ ls) ln k p R S f m B s = behind-a3 l ls ln k p (rw (begins l (B .0), le-leb fewestRows k (omega arith))) ∙ bind-got _ (only-got ls (B .2) (ln + 1))
+behind-got (v ∷ vs) cs ln k p R S f m B s =
+    behind-row (spellBlock row v) (behindRows vs cs) ln k p (not-a3 k v) ∙ bind-got _ (row-got ln k p v (R .0, R .1, S .0) (omega arith))
+    ∙ bind-got _ (behind-got vs cs (ln + 1) (k + 1) (v .mass) (R .2) (S .1) (omega arith) (omega arith) B s)
 
 -- ---- all lines
 -- What the lines of a text tell.
@@ -108,6 +109,7 @@ pub record Framed (b : Booklet) (ls : List (List ℕ)) : Type 0 where
   pub spells : linesOf b ≡ ls
   pub hull : ok ship (b .ship) ≡ true
   pub rising : Rising 0 (b .rows)
+  pub noSlips : NoSlips (b .rows)
   pub few : fewestRows ≤ length (b .rows)
   pub many : length (b .rows) ≤ mostRows
   pub begin : BeginA3 (b .conditions)
@@ -122,15 +124,15 @@ frames-sound (l ∷ ls) b B e =
     let f = ship-sound 1 l (v .0) (B .1) (v .1) in
     let s = behind-sound ls (B .2) 2 0 0 (x .0) (x .1) in
     let q : _≡_ {A = Booklet} (record { ship = v .0; rows = x .0 .rows; conditions = x .0 .conditions }) b = cc in
-    rw (← q) (record { spells = ap₂ _∷_ (f .0) (s .spells); hull = f .1; rising = s .rising; few = omega (arith, s .few); many = omega (arith, s .many); begin = s .begin; some = s .some })
+    rw (← q) (record { spells = ap₂ _∷_ (f .0) (s .spells); hull = f .1; rising = s .rising; noSlips = s .noSlips; few = omega (arith, s .few); many = omega (arith, s .many); begin = s .begin; some = s .some })
 
 -- What is within the limits is told by its own lines.
 pub framed : {most : ℕ} {b : Booklet} → WholeLimits most b → Framed b (linesOf b)
-framed w = record { spells = refl; hull = w .hull; rising = w .rising; few = w .few; many = w .many; begin = w .begin; some = w .some }
+framed w = record { spells = refl; hull = w .hull; rising = w .rising; noSlips = w .noSlips; few = w .few; many = w .many; begin = w .begin; some = w .some }
 
 pub frames-got : (b : Booklet) → Framed b (linesOf b) → bookFrames (linesOf b) ≡ got b
 unfolding bookFrames
-frames-got b F = bind-got _ (ship-got 1 (b .ship) (F .hull)) ∙ bind-got _ (behind-got (b .rows) (b .conditions) 2 0 0 (F .rising) (omega (arith, F .few)) (omega (arith, F .many)) (F .begin) (F .some))
+frames-got b F = bind-got _ (ship-got 1 (b .ship) (F .hull)) ∙ bind-got _ (behind-got (b .rows) (b .conditions) 2 0 0 (F .rising) (F .noSlips) (omega (arith, F .few)) (omega (arith, F .many)) (F .begin) (F .some))
 
 -- ---- what is spelled is lines
 pub Lines-begin : (ls : List (List ℕ)) → BeginA3 ls → Lines ls
@@ -145,7 +147,7 @@ Lines-begin (l ∷ ls) B = (some l (B .0), B .1, Lines-begin ls (B .2))
 Lines-rows : (vs : List Row) (cs : List (List ℕ)) (p : ℕ) → Rising p vs → BeginA3 cs → Lines (behindRows vs cs)
 unfolding behindRows Rising Lines spellBlock block
 Lines-rows [] cs p R B = Lines-begin cs B
-Lines-rows (v ∷ vs) cs p R B = (refl, Bytes-fixed row row-lawful v (R .0 .limits), Lines-rows vs cs (v .mass) (R .1) B)
+Lines-rows (v ∷ vs) cs p R B = (refl, Bytes-fixed row row-lawful v (R .0), Lines-rows vs cs (v .mass) (R .2) B)
 
 pub Lines-booklet : (b : Booklet) → Framed b (linesOf b) → Lines (linesOf b)
 unfolding Lines spellBlock block

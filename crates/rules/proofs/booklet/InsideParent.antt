@@ -23,7 +23,7 @@ use Rattle.rules.proofs.booklet.Alone.{begin-at}
 rows-fill : (vs : List Row) (p : ℕ) → Rising p vs → FramesFill (behindRows vs [])
 unfolding behindRows Rising FramesFill
 rows-fill [] p R = tt
-rows-fill (v ∷ vs) p R = (fixed-fills row row-lawful v (R .0 .limits), rows-fill vs (v .mass) (R .1))
+rows-fill (v ∷ vs) p R = (fixed-fills row row-lawful v (R .0), rows-fill vs (v .mass) (R .2))
 
 module _ (most : ℕ) (t : List ℕ) (b : Booklet) (e : readWhole most t ≡ got b) where
   pub lines-of-booklet : linesFrom 1 t ≡ got (linesOf b)

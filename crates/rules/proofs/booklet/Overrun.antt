@@ -9,7 +9,7 @@ use lib.Dec.{leb}
 use lib.ListN.{length, getD}
 use borrow.Author.Tests.{leb-true, le-leb, eqb-true, ne-eqb}
 use Rattle.rules.specs.Blocks.{spellBlock, Ship, Row, row, conditionTag}
-use Rattle.rules.specs.Layout.{Rising, fewestRows, mostRows, isCondition}
+use Rattle.rules.specs.Layout.{Rising, NoSlips, fewestRows, mostRows, isCondition}
 use Rattle.rules.specs.Outcome.{refused}
 use Rattle.rules.specs.Walk.{closed}
 use Rattle.rules.specs.Met.{Led, behindRows, lead, Overruns}
@@ -19,6 +19,7 @@ use Rattle.rules.specs.Apart.{BeginA3, MetWhole, firstLine, dueRow, behi
 use Rattle.rules.proofs.layout.Parts.{header-overrun}
 use Rattle.rules.proofs.walk.Outcome.{bind-got, bind-refused}
 use Rattle.rules.proofs.walk.Frames.{ship-got}
+use Rattle.rules.proofs.walk.Led.{lastFrom, last-from}
 use Rattle.rules.proofs.walk.FrameExits.{ship-short}
 use Rattle.rules.proofs.booklet.Counted.{begins, only-a3, only-other, behind-a3, behind-row}
 use Rattle.rules.proofs.booklet.Frames.{row-got, not-a3}
@@ -33,32 +34,18 @@ no-condition l k h = go (isCondition l) (leb fewestRows k) refl refl
     go false b p q = refl
 
 -- ---- what overruns is refused
--- The W before what stands behind these rows: the last one's, or p.
-unfoldable lastFrom : ℕ → List Row → ℕ
-lastFrom p [] = p
-lastFrom p (v ∷ vs) = lastFrom (v .mass) vs
-
-last-from : (vs : List Row) → lastFrom 0 vs ≡ lastMass vs
-unfolding lastFrom lastMass
-last-from [] = refl
-last-from (v ∷ vs) = go v vs
-  where
-    go : (v : Row) (vs : List Row) → lastFrom (v .mass) vs ≡ lastMass (v ∷ vs)
-    go v [] = refl
-    go v (u ∷ vs) = go u vs
-
-behind-rows : (vs : List Row) (ls : List (List ℕ)) (ln ln′ k k′ p : ℕ) {a b c : ℕ} → Rising p vs → ln′ ≡ ln + length vs → k′ ≡ k + length vs → k′ ≤ mostRows → behindShip ls ln′ k′ (lastFrom p vs) ≡ refused a b c
+behind-rows : (vs : List Row) (ls : List (List ℕ)) (ln ln′ k k′ p : ℕ) {a b c : ℕ} → Rising p vs → NoSlips vs → ln′ ≡ ln + length vs → k′ ≡ k + length vs → k′ ≤ mostRows → behindShip ls ln′ k′ (lastFrom p vs) ≡ refused a b c
     → behindShip (behindRows vs ls) ln k p ≡ refused a b c
-unfolding behindRows Rising lastFrom
-behind-rows [] ls ln ln′ k k′ p R u v m e = let x : ln ≡ ln′ = omega arith in let y : k ≡ k′ = omega arith in rw (x, y) e
-behind-rows (r ∷ vs) ls ln ln′ k k′ p R u v m e =
-    behind-row (spellBlock row r) (behindRows vs ls) ln k p (not-a3 k r) ∙ bind-got _ (row-got ln k p r (R .0) (omega arith))
-    ∙ bind-refused _ (behind-rows vs ls (ln + 1) ln′ (k + 1) k′ (r .mass) (R .1) (omega arith) (omega arith) m e)
+unfolding behindRows Rising NoSlips lastFrom
+behind-rows [] ls ln ln′ k k′ p R S u v m e = let x : ln ≡ ln′ = omega arith in let y : k ≡ k′ = omega arith in rw (x, y) e
+behind-rows (r ∷ vs) ls ln ln′ k k′ p R S u v m e =
+    behind-row (spellBlock row r) (behindRows vs ls) ln k p (not-a3 k r) ∙ bind-got _ (row-got ln k p r (R .0, R .1, S .0) (omega arith))
+    ∙ bind-refused _ (behind-rows vs ls (ln + 1) ln′ (k + 1) k′ (r .mass) (R .2) (S .1) (omega arith) (omega arith) m e)
 
 -- Behind a ship and rows as they must be; so also where the last one's W does not matter.
 pub led-last : (s : Ship) (vs : List Row) (ls : List (List ℕ)) {a b c : ℕ} → Led s vs → behindShip ls (2 + length vs) (length vs) (lastMass vs) ≡ refused a b c → bookFrames (lead s vs ls) ≡ refused a b c
 unfolding bookFrames
-led-last s vs ls L e = bind-got _ (ship-got 1 s (L .hull)) ∙ bind-refused _ (behind-rows vs ls 2 (2 + length vs) 0 (length vs) 0 (L .rising) refl (omega arith) (L .many) (rw (last-from vs) e))
+led-last s vs ls L e = bind-got _ (ship-got 1 s (L .hull)) ∙ bind-refused _ (behind-rows vs ls 2 (2 + length vs) 0 (length vs) 0 (L .rising) (L .noSlips) refl (omega arith) (L .many) (rw (last-from vs) e))
 
 pub led-behind : (s : Ship) (vs : List Row) (ls : List (List ℕ)) {a b c : ℕ} → Led s vs → ((q : ℕ) → behindShip ls (2 + length vs) (length vs) q ≡ refused a b c) → bookFrames (lead s vs ls) ≡ refused a b c
 led-behind s vs ls L e = led-last s vs ls L (e (lastMass vs))

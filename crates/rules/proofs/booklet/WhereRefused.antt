@@ -2,7 +2,7 @@
 use mathlib.Core.Path.{_≡_, refl, ap, sym, _∙_}
 use mathlib.Core.Logic.{_↔_, _⊎_, inl, inr}
 use mathlib.Core.Bool.{Bool, true, false, true≢false, _&&_}
-use mathlib.Core.List.{List, [], _∷_, _++_, append-assoc, append-nil}
+use mathlib.Core.List.{List, [], _∷_, _++_, append-assoc}
 use Prim.Native.Nat.{ℕ, _+_, _≤_, _<_}
 use native.Mathlib.Omega.{arith}
 use lib.Dec.{leb}
@@ -10,8 +10,8 @@ use lib.ListN.{length, getD, length-append}
 use borrow.Author.Tests.{leb-true, leb-false, ltb-true, ltb-false, eqb-true, eqb-false}
 use Rattle.rules.specs.Numbers.{Bytes}
 use Rattle.rules.specs.Text.{Lines}
-use Rattle.rules.specs.Blocks.{block, spellValues, Layout, ok, spellBlock, Ship, ship, Row, row, smooth, conditionTag}
-use Rattle.rules.specs.Layout.{Rising, fewestRows, mostRows, isCondition}
+use Rattle.rules.specs.Blocks.{block, spellValues, Layout, spellBlock, Ship, ship, Row, row, conditionTag}
+use Rattle.rules.specs.Layout.{fewestRows, mostRows, isCondition}
 use Rattle.rules.specs.Outcome.{Ans, refused, got}
 use Rattle.rules.specs.Walk.{Head, header, fixed, fixedIn, rowIn, shipFrame, closed}
 use Rattle.rules.specs.Met.{Led, behindRows, lead, Overruns}
@@ -21,12 +21,12 @@ use Rattle.rules.specs.Booklet.{countedLines, rowAt, onlyConditions, beh
 use Rattle.rules.specs.Apart.{BeginA3, LinesWithin, MetWhole, firstLine, dueRow, Misplaced, noShip, noRow, noCondition, NoCondition, emptyText, frontAlone, TwentyFifth}
 use Rattle.rules.proofs.layout.Fields.{row-lawful, both-true}
 use Rattle.rules.proofs.layout.Parts.{full-length, header-overrun}
-use Rattle.rules.proofs.layout.Smooth.{kn-long, bent-at, bent-not-smooth}
 use Rattle.rules.proofs.walk.Outcome.{refused-got, bind-first, bind-refused}
 use Rattle.rules.proofs.walk.Heads.{header-tag}
 use Rattle.rules.proofs.walk.Frames.{fixedIn-sound, ship-sound}
 use Rattle.rules.proofs.walk.Refusals.{Refusal, given, plain, weaker, bind-refusal, test-refusal, test-cases, header-refusal}
-use Rattle.rules.proofs.walk.OnlyOverrun.{rows-snoc}
+use Rattle.rules.proofs.walk.Led.{last-snoc, lead-snoc, led-none, led-snoc}
+use Rattle.rules.proofs.walk.TypingSlips.{mistyped-is, bent-row}
 use Rattle.rules.proofs.booklet.Counted.{begins, only-a3, only-other, behind-a3, behind-row}
 use Rattle.rules.proofs.booklet.Frames.{row-sound, row-slip, not-a3}
 use Rattle.rules.proofs.booklet.WholeText.{countedLines-sound, read-blocks}
@@ -83,9 +83,6 @@ module _ (s : Ship) (vs : List Row) (L : Led s vs) where
   early : (l : List ℕ) → (isCondition l && leb fewestRows (length vs)) ≡ false → getD l 0 0 ≡ conditionTag → length vs < fewestRows
   early l q t = leb-false fewestRows (length vs) (rw (begins l t) at q)
 
-  mistyped-is : (l : List ℕ) (later : List (List ℕ)) (p : ℕ) (v : Row) → p ≡ lastMass vs → length vs < mostRows → spellBlock row v ≡ l → ok row v ≡ true → p < v .mass → smooth (v .kn) ≡ false → Mistyped (lead s vs (l ∷ later)) (2 + length vs)
-  mistyped-is l later p v q m e o r b = let x = bent-at (v .kn) b in rw (← e) (mistyped s vs v later L m o (omega arith) (x .0) (x .1) (omega (arith, x .2, kn-long v o)) (x .3))
-
   row-stands : (l : List ℕ) (later : List (List ℕ)) (p : ℕ) → Bytes l → 0 < length l → p ≡ lastMass vs → (isCondition l && leb fewestRows (length vs)) ≡ false → Refusal (Stands (lead s vs (l ∷ later))) (rowAt (2 + length vs) (length vs) p l)
   unfolding rowAt rowIn spellBlock
   row-stands l later p B z w q =
@@ -95,29 +92,18 @@ module _ (s : Ship) (vs : List Row) (L : Led s vs) where
       bind-refusal _ _ (fixed-stands (2 + length vs) row h) (λ v ev.
       let S = fixedIn-sound (2 + length vs) row row-lawful l h v B eh ev in
       test-cases _ _ _ _ _ (λ r. outside (2 + length vs)) (λ r.
-      test-cases _ _ _ _ _ (λ b. slip (2 + length vs) (mistyped-is l later p v w (ltb-true _ _ d) (ap (λ t. block t (spellValues (row .fields) (row .listed v))) (sym (eqb-true _ _ c)) ∙ S .0) (S .1) (ltb-true _ _ r) b)) (λ b. given))))))
+      test-cases _ _ _ _ _ (λ b. slip (2 + length vs) (mistyped-is s vs L l later p v w (ltb-true _ _ d) (ap (λ t. block t (spellValues (row .fields) (row .listed v))) (sym (eqb-true _ _ c)) ∙ S .0) (S .1) (ltb-true _ _ r) b)) (λ b. given))))))
 
 -- ---- behind the ship and some rows
-last-snoc : (vs : List Row) (v : Row) → lastMass (vs ++ (v ∷ [])) ≡ v .mass
-unfolding lastMass
-last-snoc [] v = refl
-last-snoc (u ∷ []) v = refl
-last-snoc (u ∷ w ∷ vs) v = last-snoc (w ∷ vs) v
-
 none-at : {ls : List (List ℕ)} {k ln : ℕ} → NoCondition ls k → ln ≡ k → Stands ls 5 ln 0
 none-at c q = rw q (noneComes _ c)
 
--- Whatever rises from W = p on, rises behind those rows.
-behind-stands : (ls : List (List ℕ)) (s : Ship) (vs : List Row) (ln k p : ℕ) → Lines ls → ok ship s ≡ true → ((ws : List Row) → Rising p ws → Rising 0 (vs ++ ws)) → p ≡ lastMass vs → length vs ≤ mostRows → ln ≡ 2 + length vs → k ≡ length vs
-    → Refusal (Stands (lead s vs ls)) (behindShip ls ln k p)
-unfolding behindShip Lines Rising BeginA3
-behind-stands [] s vs ln k p B h up w m a b = plain (none-at (frontAlone s vs (record { hull = h; rising = rw append-nil at (up [] tt); many = m })) (omega arith))
-behind-stands (l ∷ ls) s vs ln k p B h up w m a b = rw (a, b) (go (λ vs ln k p. behind-stands ls s vs ln k p (B .2) h) (isCondition l && leb fewestRows (length vs)) refl)
+behind-stands : (ls : List (List ℕ)) (s : Ship) (vs : List Row) (ln k p : ℕ) → Lines ls → Led s vs → p ≡ lastMass vs → ln ≡ 2 + length vs → k ≡ length vs → Refusal (Stands (lead s vs ls)) (behindShip ls ln k p)
+unfolding behindShip Lines BeginA3
+behind-stands [] s vs ln k p B L w a b = plain (none-at (frontAlone s vs L) (omega arith))
+behind-stands (l ∷ ls) s vs ln k p B L w a b = rw (a, b) (go (λ vs ln k p. behind-stands ls s vs ln k p (B .2)) (isCondition l && leb fewestRows (length vs)) refl)
   where
-    L : Led s vs
-    L = record { hull = h; rising = rw append-nil at (up [] tt); many = m }
-
-    go : ((vs : List Row) (ln k p : ℕ) → ((ws : List Row) → Rising p ws → Rising 0 (vs ++ ws)) → p ≡ lastMass vs → length vs ≤ mostRows → ln ≡ 2 + length vs → k ≡ length vs → Refusal (Stands (lead s vs ls)) (behindShip ls ln k p))
+    go : ((vs : List Row) (ln k p : ℕ) → Led s vs → p ≡ lastMass vs → ln ≡ 2 + length vs → k ≡ length vs → Refusal (Stands (lead s vs ls)) (behindShip ls ln k p))
         → (c : Bool) → (isCondition l && leb fewestRows (length vs)) ≡ c → Refusal (Stands (lead s vs (l ∷ ls))) (behindShip (l ∷ ls) (2 + length vs) (length vs) p)
     go H true q =
         let i : (isCondition l ≡ true) × (leb fewestRows (length vs) ≡ true) = both-true _ _ q in
@@ -128,8 +114,8 @@ behind-stands (l ∷ ls) s vs ln k p B h up w m a b = rw (a, b) (go (λ vs ln k 
         (bind-refusal _ _ (row-stands s vs L l ls p (B .1) (full-length l (B .0)) w q) (λ v ev.
         let T = row-sound (2 + length vs) (length vs) p l v (B .1) ev in
         let M = length-append vs (v ∷ []) in
-        let e : lead s (vs ++ (v ∷ [])) ls ≡ lead s vs (l ∷ ls) = ap (spellBlock ship s ∷_) (rows-snoc vs v ls ∙ ap (λ x. behindRows vs (x ∷ ls)) (T .0)) in
-        bind-refusal _ _ (rw e at (H (vs ++ (v ∷ [])) (2 + length vs + 1) (length vs + 1) (v .mass) (λ ws R. rw append-assoc (up (v ∷ ws) (T .1, R))) (sym (last-snoc vs v)) (omega (arith, T .2)) (omega arith) (omega arith))) (λ x ex. given)))
+        let e : lead s (vs ++ (v ∷ [])) ls ≡ lead s vs (l ∷ ls) = lead-snoc s vs v ls ∙ ap (λ x. lead s vs (x ∷ ls)) (T .0) in
+        bind-refusal _ _ (rw e at (H (vs ++ (v ∷ [])) (2 + length vs + 1) (length vs + 1) (v .mass) (led-snoc s vs v p L w (T .1) (T .2)) (sym (last-snoc vs v)) (omega arith) (omega arith))) (λ x ex. given)))
 
 -- ---- all lines
 frames-stand : (ls : List (List ℕ)) → Lines ls → Refusal (Stands ls) (bookFrames ls)
@@ -141,7 +127,7 @@ frames-stand (l ∷ ls) B =
     test-cases _ _ _ _ _ (λ c. begun-misplaced 1 l h eh (noShip l ls (λ t. eqb-false _ _ c (sym (header-tag 1 0 l h eh) ∙ t)))) (λ c. fixed-stands 1 ship h)))
     (λ v ev.
     let S = ship-sound 1 l v (B .1) ev in
-    bind-refusal _ _ (rw (S .0) at (behind-stands ls v [] 2 0 0 (B .2) (S .1) (λ ws R. R) refl (omega arith) refl refl)) (λ x ex. given))
+    bind-refusal _ _ (rw (S .0) at (behind-stands ls v [] 2 0 0 (B .2) (led-none v (S .1)) refl refl refl)) (λ x ex. given))
 
 -- ---- a whole text
 whole-stands : (most : ℕ) (t : List ℕ) (ls : List (List ℕ)) → LinesWithin most t ls → Refusal (Stands ls) (readWhole most t)
@@ -182,7 +168,7 @@ five-whole most t l o = (λ e. there (countedLines most t) refl e, λ x. rw (x .
 mistyped-refused : {ls : List (List ℕ)} {ln : ℕ} → Mistyped ls ln → bookFrames ls ≡ refused 10 ln 0
 mistyped-refused (mistyped s vs v later L m e r i a b f) =
     led-last s vs (spellBlock row v ∷ later) L (behind-row (spellBlock row v) later (2 + length vs) (length vs) (lastMass vs) (not-a3 (length vs) v)
-    ∙ bind-refused _ (row-slip (2 + length vs) (length vs) (lastMass vs) v e r (bent-not-smooth (v .kn) i a (omega (arith, kn-long v e)) f) m))
+    ∙ bind-refused _ (row-slip (2 + length vs) (length vs) (lastMass vs) v e r (bent-row v e i a b f) m))
 
 pub ten-whole : (most : ℕ) (t : List ℕ) (ls : List (List ℕ)) → LinesWithin most t ls → (ln o : ℕ) → (readWhole most t ≡ refused 10 ln o) ↔ ((o ≡ 0) × Mistyped ls ln)
 ten-whole most t ls C ln o = (λ e. go (whole-stands most t ls C .holds 10 ln o e), λ x. read-blocks most t ls C ∙ mistyped-refused (x .1) ∙ ap (refused 10 ln) (sym (x .0)))

@@ -53,7 +53,7 @@ sound most t b e =
     let F = frames-sound (a .0) b (C .lines) (a .2) in
     let p : text (linesOf b) ≡ t = ap text (F .spells) ∙ C .spells in
     let n : length (b .conditions) ≤ mostConditions = rw (← (lines-lead (b .ship) (b .rows) (b .conditions) (F .begin)), F .spells) (C .atMost) in
-    (record { hull = F .hull; rising = F .rising; few = F .few; many = F .many; begin = F .begin; some = F .some; atMost = n; long = omega (arith, ap length p, C .long) }, p)
+    (record { hull = F .hull; rising = F .rising; noSlips = F .noSlips; few = F .few; many = F .many; begin = F .begin; some = F .some; atMost = n; long = omega (arith, ap length p, C .long) }, p)
 
 -- Its own lines, where it is within the limits.
 pub lines-within : {most : ℕ} {b : Booklet} → WholeLimits most b → LinesWithin most (spellBooklet b) (linesOf b)

@@ -4,10 +4,10 @@ use mathlib.Core.Bool.{Bool, true, false, _&&_}
 use mathlib.Core.List.{List, [], _∷_}
 use Prim.Native.Nat.{ℕ, zero, suc, _+_, _^_, _≤_, _<_}
 use native.Mathlib.Omega.{arith}
-use lib.ListN.{length, take, drop, getD, length-append, length-take, length-drop, take-append-drop, drop-of-length-le}
+use lib.ListN.{length, take, drop, getD, set, length-append, length-take, length-drop, take-append-drop, drop-of-length-le}
 use lib.Seq.{drop-cons, take-at, drop-at}
 use lib.Dec.{ltb, leb}
-use borrow.Author.Tests.{ltb-true, leb-true}
+use borrow.Author.Tests.{ltb-true, leb-true, le-leb}
 use Rattle.rules.specs.Numbers.{digits, Bytes}
 use Rattle.rules.specs.Blocks.{Field, field, size, values, spellValues, within, Layout, ok, ship, row, Set, code, timber, weather, TankKind, ordinary, cargo, tankTag, Load, item, tank, entry}
 use Rattle.rules.proofs.layout.Numbers.{Bytes-take, Bytes-drop, Bytes-append, Bytes-digits, length-digits, num-digits, digits-num}
@@ -35,6 +35,25 @@ limited (f ∷ fs) (x ∷ v) e =
     let a : ((leb (f .low) x && leb x (f .high)) ≡ true) × (within fs v ≡ true) = both-true _ _ e in
     let b : (leb (f .low) x ≡ true) × (leb x (f .high) ≡ true) = both-true _ _ (a .0) in
     (leb-true _ _ (b .0), leb-true _ _ (b .1), limited fs v (a .1))
+
+-- There are as many values as fields; and a value within its own field's limits may stand in the place of another.
+pub within-long : (fs : List Field) (v : List ℕ) → within fs v ≡ true → length v ≡ length fs
+unfolding within
+within-long [] [] e = refl
+within-long [] (x ∷ v) e = absurd (let z : _≡_ {A = ℕ} 0 1 = cc in omega arith)
+within-long (f ∷ fs) [] e = absurd (let z : _≡_ {A = ℕ} 0 1 = cc in omega arith)
+within-long (f ∷ fs) (x ∷ v) e = let a : ((leb (f .low) x && leb x (f .high)) ≡ true) × (within fs v ≡ true) = both-true _ _ e in ap suc (within-long fs v (a .1))
+
+pub within-set : (fs : List Field) (v : List ℕ) (i x : ℕ) (d : Field) → within fs v ≡ true → getD fs i d .low ≤ x → x ≤ getD fs i d .high → within fs (set v i x) ≡ true
+unfolding within
+within-set fs [] i x d e from to = e
+within-set [] (y ∷ v) i x d e from to = absurd (let z : _≡_ {A = ℕ} 0 1 = cc in omega arith)
+within-set (f ∷ fs) (y ∷ v) zero x d e from to =
+    let a : ((leb (f .low) y && leb y (f .high)) ≡ true) × (within fs v ≡ true) = both-true _ _ e in
+    rw (le-leb (f .low) x from, le-leb x (f .high) to) (a .1)
+within-set (f ∷ fs) (y ∷ v) (suc i) x d e from to =
+    let a : ((leb (f .low) y && leb y (f .high)) ≡ true) × (within fs v ≡ true) = both-true _ _ e in
+    rw (a .0) (within-set fs v i x d (a .1) from to)
 
 -- ---- a body and its values
 length-values : (fs : List Field) (s : List ℕ) → length (values fs s) ≡ length fs

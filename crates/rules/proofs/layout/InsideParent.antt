@@ -109,12 +109,12 @@ rows-fill : (vs : List Row) (c : Condition) (p : ℕ) → Rising p vs → Condit
 unfolding rowFrames Rising FramesFill
 rows-fill [] c p R l = record { front = []; last = block conditionTag (spellCondition c); lines = refl; frames = tt; condition = condition-fills c (omega (arith, l .long)) }
 rows-fill (v ∷ vs) c p R l =
-    let x = rows-fill vs c (v .mass) (R .1) l in
+    let x = rows-fill vs c (v .mass) (R .2) l in
     record {
       front = spellBlock row v ∷ x .front;
       last = x .last;
       lines = ap (spellBlock row v ∷_) (x .lines);
-      frames = (fixed-fills row row-lawful v (R .0 .limits), x .frames);
+      frames = (fixed-fills row row-lawful v (R .0), x .frames);
       condition = x .condition;
     }
 

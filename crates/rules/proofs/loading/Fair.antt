@@ -43,7 +43,7 @@ row-at r h i = ok-at row r h i
 column-within : (i m : ℕ) (rows : List Row) → Rising m rows → valuesWithin (rowField i .low) (rowField i .high) (column (valueAt i) rows) ≡ true
 unfolding Rising
 column-within i m [] h = refl
-column-within i m (r ∷ rows) h = rw (le-leb (rowField i .low) (valueAt i r) (row-at r (h .0 .limits) i .0), le-leb (valueAt i r) (rowField i .high) (row-at r (h .0 .limits) i .1)) (column-within i (r .mass) rows (h .1))
+column-within i m (r ∷ rows) h = rw (le-leb (rowField i .low) (valueAt i r) (row-at r (h .0) i .0), le-leb (valueAt i r) (rowField i .high) (row-at r (h .0) i .1)) (column-within i (r .mass) rows (h .2))
 
 module _ (m : ℕ) (rows : List Row) (rising : Rising m rows) (some : full rows ≡ true) where
   between-at : (i w : ℕ) → Inside (rowField i) (between rows (valueAt i) w)
@@ -57,13 +57,13 @@ module _ (m : ℕ) (rows : List Row) (rising : Rising m rows) (some : full rows 
 first-from : (m : ℕ) (rows : List Row) → Rising m rows → full rows ≡ true → rowField 0 .low ≤ firstMass rows
 unfolding Rising firstMass
 first-from m [] h s = let z : _≡_ {A = ℕ} 0 1 = cc in absurd (omega arith)
-first-from m (r ∷ rows) h s = row-at r (h .0 .limits) 0 .0
+first-from m (r ∷ rows) h s = row-at r (h .0) 0 .0
 
 last-to : (m : ℕ) (rows : List Row) → Rising m rows → lastMass rows ≤ rowField 0 .high
 unfolding Rising lastMass
 last-to m [] h = omega arith
-last-to m (r ∷ []) h = row-at r (h .0 .limits) 0 .1
-last-to m (r ∷ s ∷ rows) h = last-to (r .mass) (s ∷ rows) (h .1)
+last-to m (r ∷ []) h = row-at r (h .0) 0 .1
+last-to m (r ∷ s ∷ rows) h = last-to (r .mass) (s ∷ rows) (h .2)
 
 mass-within : (m : ℕ) (rows : List Row) → Rising m rows → full rows ≡ true → (w : ℕ) → inTable rows w ≡ true → Inside (rowField 0) w
 unfolding inTable

@@ -2,25 +2,15 @@
 use mathlib.Core.Path.{_≡_, refl, ap}
 use mathlib.Core.Bool.{true}
 use mathlib.Core.List.{List, [], _∷_, _++_, map}
-use Prim.Native.Nat.{ℕ, zero, suc, _≤_, _<_}
-use native.Mathlib.Omega.{arith}
-use lib.ListN.{length, getD}
+use Prim.Native.Nat.{ℕ, _≤_}
 use borrow.Author.Tests.{lt-ltb}
 use Rattle.rules.specs.Numbers.{full}
 use Rattle.rules.specs.Rounding.{down, Point, point}
 use Rattle.rules.specs.Blocks.{Row}
-use Rattle.rules.specs.Layout.{Follows, Rising}
+use Rattle.rules.specs.Layout.{Rising}
 use Rattle.rules.specs.Curve.{between}
 use Rattle.rules.proofs.rounding.Tables.{inOrder, Linear, table-is, valuesWithin, table-within}
 
--- ---- rows by number
-pub row-follows : (m : ℕ) (rows : List Row) (d : Row) → Rising m rows → (i : ℕ) → i < length rows → (p : ℕ) × Follows p (getD rows i d)
-unfolding Rising
-row-follows m [] d h i l = absurd (omega arith)
-row-follows m (r ∷ rows) d h zero l = (m, h .0)
-row-follows m (r ∷ rows) d h (suc i) l = row-follows (r .mass) rows d (h .1) i (omega arith)
-
--- ---- a column of the table
 module _ (f : Row → ℕ) where
   -- The points of a table's column.
   abbrev pub column : List Row → List Point
@@ -30,7 +20,7 @@ module _ (f : Row → ℕ) where
   unfolding Rising
   rows-in-order m [] h = refl
   rows-in-order m (r ∷ []) h = refl
-  rows-in-order m (r ∷ s ∷ rows) h = rw (lt-ltb (r .mass) (s .mass) (h .1 .0 .heavier)) (rows-in-order (r .mass) (s ∷ rows) (h .1))
+  rows-in-order m (r ∷ s ∷ rows) h = rw (lt-ltb (r .mass) (s .mass) (h .2 .1)) (rows-in-order (r .mass) (s ∷ rows) (h .2))
 
   pub between-is : (m : ℕ) (rows : List Row) → Rising m rows → Linear down (column rows) (between rows f)
   unfolding between

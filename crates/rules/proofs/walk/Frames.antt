@@ -10,7 +10,7 @@ use borrow.Author.Tests.{ltb-true, leb-true, eqb-true, lt-ltb, le-leb}
 use Rattle.rules.specs.Numbers.{Bytes}
 use Rattle.rules.specs.Text.{Lines}
 use Rattle.rules.specs.Blocks.{block, spellValues, Layout, ok, spellBlock, Ship, ship, Row, row, smooth, conditionTag}
-use Rattle.rules.specs.Layout.{Condition, Reading, spellCondition, rowFrames, frames, Follows, Rising, fewestRows, mostRows, mostBytes, ConditionLimits}
+use Rattle.rules.specs.Layout.{Condition, Reading, spellCondition, rowFrames, frames, Rising, NoSlips, fewestRows, mostRows, mostBytes, ConditionLimits}
 use Rattle.rules.specs.Outcome.{Ans, refused, got, _>>=_}
 use Rattle.rules.specs.Walk.{Head, header, inside, conditionIn, fixedIn, shipFrame, rowIn, Frame, aRow, aCondition, frameOf, Found, tableRow, theCondition, found, frameAt, closed, Tail, after, tail, readFrames}
 use Rattle.rules.proofs.walk.Outcome.{refused-got, bind-inv, test-inv, bind-got, test-got}
@@ -47,7 +47,11 @@ unfolding fixedIn
 fixedIn-got ln L W a e = test-got _ _ _ _ refl ∙ fixed-got ln 0 L W true a refl e
 
 -- ---- a row
-pub rowIn-sound : (ln p : ℕ) (l : List ℕ) (h : Head) (v : Row) → Bytes l → header ln 0 l ≡ got h → rowIn ln p h ≡ got v → (block (h .tag) (spellValues (row .fields) (row .listed v)) ≡ l) × Follows p v
+-- What a row must be behind one with W = p.
+abbrev pub RowPasses : ℕ → Row → Type 0
+RowPasses p v = (ok row v ≡ true) × (p < v .mass) × (smooth (v .kn) ≡ true)
+
+pub rowIn-sound : (ln p : ℕ) (l : List ℕ) (h : Head) (v : Row) → Bytes l → header ln 0 l ≡ got h → rowIn ln p h ≡ got v → (block (h .tag) (spellValues (row .fields) (row .listed v)) ≡ l) × RowPasses p v
 unfolding rowIn
 rowIn-sound ln p l h v B eh e =
     let w = bind-inv _ _ e in
@@ -55,14 +59,14 @@ rowIn-sound ln p l h v B eh e =
     let c = test-inv _ _ _ _ _ (a .1) in
     let f = fixedIn-sound ln row row-lawful l h (w .0) B eh (w .1) in
     let q : w .0 ≡ v = cc in
-    rw (← q) (f .0, record { limits = f .1; heavier = ltb-true p (w .0 .mass) (a .0); even = c .0 })
+    rw (← q) (f .0, (f .1, ltb-true p (w .0 .mass) (a .0), c .0))
 
 -- Its own frame, its limits and its W being as they must be: it is read, or has 10.
 abbrev pub rowHead : Row → Head
 rowHead v = record { tag = row .tag; body = spellValues (row .fields) (row .listed v); rest = [] }
 
-pub rowIn-got : (ln p : ℕ) (v : Row) → Follows p v → rowIn ln p (rowHead v) ≡ got v
-rowIn-got ln p v F = row-got ln p (rowHead v) v (fixedIn-got ln row row-lawful v (F .limits)) (F .heavier) (F .even)
+pub rowIn-got : (ln p : ℕ) (v : Row) → RowPasses p v → rowIn ln p (rowHead v) ≡ got v
+rowIn-got ln p v F = row-got ln p (rowHead v) v (fixedIn-got ln row row-lawful v (F .0)) (F .1) (F .2)
 
 pub rowIn-slip : (ln p : ℕ) (v : Row) → ok row v ≡ true → p < v .mass → smooth (v .kn) ≡ false → rowIn ln p (rowHead v) ≡ refused 10 ln 0
 rowIn-slip ln p v e r s = row-slip ln p (rowHead v) v (fixedIn-got ln row row-lawful v e) r s
@@ -115,13 +119,14 @@ closed-sound ln (l ∷ ls) u e = refused-got (bind-inv _ _ e .2)
 
 -- What one frame after the ship's tells, k rows being before it, the last with W = p.
 abbrev pub FrameSpelled : ℕ → ℕ → List ℕ → Found → Type 0
-FrameSpelled k p l (tableRow v) = (spellBlock row v ≡ l) × Follows p v × (k < mostRows)
+FrameSpelled k p l (tableRow v) = (spellBlock row v ≡ l) × RowPasses p v × (k < mostRows)
 FrameSpelled k p l (theCondition c) = (block conditionTag (spellCondition c) ≡ l) × ConditionLimits c × (fewestRows ≤ k)
 
 -- What the frames after the ship's tell.
 record TailSpelled (k p : ℕ) (x : Tail) (ls : List (List ℕ)) : Type 0 where
   spells : rowFrames (x .rows) (x .condition) ≡ ls
   rising : Rising p (x .rows)
+  noSlips : NoSlips (x .rows)
   few : fewestRows ≤ k + length (x .rows)
   many : length (x .rows) ≤ mostRows - k
   loaded : ConditionLimits (x .condition)
@@ -155,16 +160,16 @@ frameAt-sound ln k p l f B e =
     found-sound ln k p l (a .0) (b .0) f B (a .1) (frameOf-sound ln (a .0 .tag) (b .0) (b .1)) (b .2)
 
 after-sound : (w : ℕ → ℕ → ℕ → Ans Tail) (ls : List (List ℕ)) → Sound w ls → (ln k p : ℕ) (l : List ℕ) (f : Found) (x : Tail) → FrameSpelled k p l f → after w ls ln k f ≡ got x → TailSpelled k p x (l ∷ ls)
-unfolding after rowFrames Rising
+unfolding after rowFrames Rising NoSlips
 after-sound w ls S ln k p l (tableRow v) x T e =
     let y = bind-inv _ _ e in
     let t = S _ _ _ (y .0) (y .1) in
     let q : _≡_ {A = Tail} (record { rows = v ∷ y .0 .rows; condition = y .0 .condition }) x = cc in
-    rw (← q) (record { spells = ap₂ _∷_ (T .0) (t .spells); rising = (T .1, t .rising); few = omega (arith, t .few); many = omega (arith, t .many, T .2); loaded = t .loaded })
+    rw (← q) (record { spells = ap₂ _∷_ (T .0) (t .spells); rising = (T .1 .0, T .1 .1, t .rising); noSlips = (T .1 .2, t .noSlips); few = omega (arith, t .few); many = omega (arith, t .many, T .2); loaded = t .loaded })
 after-sound w ls S ln k p l (theCondition c) x T e =
     let z = bind-inv _ _ e in
     let q : _≡_ {A = Tail} (record { rows = []; condition = c }) x = cc in
-    rw (← q) (record { spells = ap₂ _∷_ (T .0) (sym (closed-sound _ ls (z .0) (z .1))); rising = tt; few = omega (arith, T .2); many = omega arith; loaded = T .1 })
+    rw (← q) (record { spells = ap₂ _∷_ (T .0) (sym (closed-sound _ ls (z .0) (z .1))); rising = tt; noSlips = tt; few = omega (arith, T .2); many = omega arith; loaded = T .1 })
 
 tail-sound : (ls : List (List ℕ)) → Lines ls → Sound (tail ls) ls
 unfolding tail Lines
@@ -178,6 +183,7 @@ pub record Framed (r : Reading) (ls : List (List ℕ)) : Type 0 where
   pub spells : frames r ≡ ls
   pub hull : ok ship (r .ship) ≡ true
   pub rising : Rising 0 (r .rows)
+  pub noSlips : NoSlips (r .rows)
   pub few : fewestRows ≤ length (r .rows)
   pub many : length (r .rows) ≤ mostRows
   pub loaded : ConditionLimits (r .condition)
@@ -191,7 +197,7 @@ readFrames-sound (l ∷ ls) r B e =
     let f = ship-sound 1 l (v .0) (B .1) (v .1) in
     let s = tail-sound ls (B .2) 2 0 0 (x .0) (x .1) in
     let q : _≡_ {A = Reading} (record { ship = v .0; rows = x .0 .rows; condition = x .0 .condition }) r = cc in
-    rw (← q) (record { spells = ap₂ _∷_ (f .0) (s .spells); hull = f .1; rising = s .rising; few = omega (arith, s .few); many = omega (arith, s .many); loaded = s .loaded })
+    rw (← q) (record { spells = ap₂ _∷_ (f .0) (s .spells); hull = f .1; rising = s .rising; noSlips = s .noSlips; few = omega (arith, s .few); many = omega (arith, s .many); loaded = s .loaded })
 
 -- ---- complete
 -- The ship's frame, a row's and the condition's, where they are within their limits.
@@ -199,12 +205,15 @@ pub ship-got : (ln : ℕ) (v : Ship) → ok ship v ≡ true → shipFrame ln (sp
 unfolding shipFrame spellBlock
 ship-got ln v e = bind-got _ (frame-got ln (ship .tag) (spellValues (ship .fields) (ship .listed v)) (length-fits ship ship-lawful v e)) ∙ test-got _ _ _ _ refl ∙ fixedIn-got ln ship ship-lawful v e
 
-pub tail-row : (v : Row) (ls : List (List ℕ)) (ln k p : ℕ) → Follows p v → k < mostRows
+-- A row's frame, in its place, comes to the row's own tests.
+pub row-frame : (ln k p : ℕ) (v : Row) → ok row v ≡ true → k < mostRows → frameAt ln k p (spellBlock row v) ≡ (rowIn ln p (rowHead v) >>= λ u. got (tableRow u))
+unfolding frameAt frameOf found spellBlock
+row-frame ln k p v e m = bind-got _ (frame-got ln (row .tag) (spellValues (row .fields) (row .listed v)) (length-fits row row-lawful v e)) ∙ bind-got _ refl ∙ test-got _ _ _ _ (lt-ltb k mostRows m)
+
+pub tail-row : (v : Row) (ls : List (List ℕ)) (ln k p : ℕ) → RowPasses p v → k < mostRows
     → tail (spellBlock row v ∷ ls) ln k p ≡ (tail ls (ln + 1) (k + 1) (v .mass) >>= λ x. got (record { rows = v ∷ x .rows; condition = x .condition }))
-unfolding tail frameAt frameOf found after spellBlock
-tail-row v ls ln k p F m =
-    bind-got _ (bind-got _ (frame-got ln (row .tag) (spellValues (row .fields) (row .listed v)) (length-fits row row-lawful v (F .limits))) ∙ bind-got _ refl
-    ∙ test-got _ _ _ _ (lt-ltb k mostRows m) ∙ bind-got _ (rowIn-got ln p v F))
+unfolding tail after
+tail-row v ls ln k p F m = bind-got _ (row-frame ln k p v (F .0) m ∙ bind-got _ (rowIn-got ln p v F))
 
 pub condition-frame : (ln k p : ℕ) (body : List ℕ) → fewestRows ≤ k → length body ≤ mostBytes → frameAt ln k p (block conditionTag body) ≡ (inside ln body >>= λ c. got (theCondition c))
 unfolding frameAt frameOf found conditionIn
@@ -212,20 +221,20 @@ condition-frame ln k p body h l =
     bind-got _ (frame-got ln conditionTag body (omega arith)) ∙ bind-got _ refl ∙ test-got _ _ _ _ (le-leb fewestRows k h)
     ∙ ap (_>>= λ c. got (theCondition c)) (test-got _ _ _ _ refl ∙ test-got _ _ _ _ (le-leb _ _ l))
 
-tail-got : (vs : List Row) (c : Condition) (ln k p : ℕ) → Rising p vs → fewestRows ≤ k + length vs → length vs ≤ mostRows - k → ConditionLimits c → tail (rowFrames vs c) ln k p ≡ got (record { rows = vs; condition = c })
-unfolding rowFrames Rising tail after closed
-tail-got [] c ln k p R a b l = bind-got _ (condition-frame ln k p (spellCondition c) (omega arith) (l .long) ∙ bind-got _ (inside-got ln c l)) ∙ bind-got _ refl
-tail-got (v ∷ vs) c ln k p R a b l = tail-row v (rowFrames vs c) ln k p (R .0) (omega arith) ∙ bind-got _ (tail-got vs c (ln + 1) (k + 1) (v .mass) (R .1) (omega arith) (omega arith) l)
+tail-got : (vs : List Row) (c : Condition) (ln k p : ℕ) → Rising p vs → NoSlips vs → fewestRows ≤ k + length vs → length vs ≤ mostRows - k → ConditionLimits c → tail (rowFrames vs c) ln k p ≡ got (record { rows = vs; condition = c })
+unfolding rowFrames Rising NoSlips tail after closed
+tail-got [] c ln k p R S a b l = bind-got _ (condition-frame ln k p (spellCondition c) (omega arith) (l .long) ∙ bind-got _ (inside-got ln c l)) ∙ bind-got _ refl
+tail-got (v ∷ vs) c ln k p R S a b l = tail-row v (rowFrames vs c) ln k p (R .0, R .1, S .0) (omega arith) ∙ bind-got _ (tail-got vs c (ln + 1) (k + 1) (v .mass) (R .2) (S .1) (omega arith) (omega arith) l)
 
 pub readFrames-got : (r : Reading) → Framed r (frames r) → readFrames (frames r) ≡ got r
 unfolding readFrames frames
-readFrames-got r F = bind-got _ (ship-got 1 (r .ship) (F .hull)) ∙ bind-got _ (tail-got (r .rows) (r .condition) 2 0 0 (F .rising) (omega (arith, F .few)) (omega (arith, F .many)) (F .loaded))
+readFrames-got r F = bind-got _ (ship-got 1 (r .ship) (F .hull)) ∙ bind-got _ (tail-got (r .rows) (r .condition) 2 0 0 (F .rising) (F .noSlips) (omega (arith, F .few)) (omega (arith, F .many)) (F .loaded))
 
 -- What is spelled is lines.
 Lines-rows : (vs : List Row) (c : Condition) (p : ℕ) → Rising p vs → ConditionLimits c → Lines (rowFrames vs c)
 unfolding rowFrames Rising Lines spellBlock block
 Lines-rows [] c p R l = (refl, Bytes-block conditionTag (spellCondition c) (omega arith) (omega (arith, l .long)) (Bytes-condition c l), tt)
-Lines-rows (v ∷ vs) c p R l = (refl, Bytes-fixed row row-lawful v (R .0 .limits), Lines-rows vs c (v .mass) (R .1) l)
+Lines-rows (v ∷ vs) c p R l = (refl, Bytes-fixed row row-lawful v (R .0), Lines-rows vs c (v .mass) (R .2) l)
 
 pub Lines-frames : (r : Reading) → Framed r (frames r) → Lines (frames r)
 unfolding frames Lines spellBlock block

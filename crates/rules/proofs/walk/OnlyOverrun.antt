@@ -2,23 +2,25 @@
 use mathlib.Core.Path.{_≡_, refl, ap, sym, _∙_}
 use mathlib.Core.Logic.{_↔_}
 use mathlib.Core.Bool.{true}
-use mathlib.Core.List.{List, [], _∷_, _++_, append-assoc, append-nil}
+use mathlib.Core.List.{List, [], _∷_, _++_, append-assoc}
 use Prim.Native.Nat.{ℕ, zero, suc, _+_, _-_, _≤_, _<_}
 use native.Mathlib.Omega.{arith}
 use lib.ListN.{length, length-append}
 use borrow.Author.Tests.{leb-true}
 use Rattle.rules.specs.Numbers.{Bytes, full}
 use Rattle.rules.specs.Text.{text, Lines}
-use Rattle.rules.specs.Blocks.{block, ok, spellBlock, Ship, ship, Row, row, conditionTag, Weather, okWeather, spellWeather, Load, Values, entry, groupTag}
-use Rattle.rules.specs.Layout.{Entries, end, leaf, group, Condition, spell, spellCondition, leaves, depth, some, Good, Rising, fewestRows, mostRows, mostDepth, mostEntries, mostBytes, mostCharacters, ConditionLimits}
+use Rattle.rules.specs.Blocks.{block, ok, spellBlock, Ship, ship, Row, conditionTag, Weather, okWeather, spellWeather, Load, Values, entry, groupTag}
+use Rattle.rules.specs.Layout.{Entries, end, leaf, group, Condition, spell, spellCondition, leaves, depth, some, Good, fewestRows, mostDepth, mostEntries, mostBytes, mostCharacters, ConditionLimits}
 use Rattle.rules.specs.Outcome.{Ans, refused, got}
 use Rattle.rules.specs.Walk.{Head, header, Block, one, nest, Walk, step, walk, entries, loadAt, inside, conditionIn, shipFrame, Frame, aRow, aCondition, Found, tableRow, theCondition, found, frameAt, closed, after, tail, readFrames, read}
 use Rattle.rules.specs.Met.{Passed, Meets, behind, nestedIn, Led, behindRows, lead, Met, shipsFrame, frame, frameBehind, weatherBlock, entryBlock, Overruns}
+use Rattle.rules.specs.Loading.{lastMass}
 use Rattle.rules.proofs.layout.Parts.{full-length}
 use Rattle.rules.proofs.walk.Heads.{length-alone, header-sound}
 use Rattle.rules.proofs.walk.Entries.{Sound, BlockSpelled, block-sound, walk-sound, full-spell}
 use Rattle.rules.proofs.walk.Conditions.{weather-sound}
 use Rattle.rules.proofs.walk.Frames.{code, frame-sound, frameOf-sound, FrameSpelled, frameAt-sound, ship-sound}
+use Rattle.rules.proofs.walk.Led.{last-snoc, lead-snoc, led-none, led-snoc}
 use Rattle.rules.proofs.walk.WholeText.{read-lines}
 use Rattle.rules.proofs.walk.Refusals.{Refusal, given, plain, weaker, bind-refusal, test-refusal, test-cases, At, header-refusal, block-refusal, weather-refusal, fixedIn-refusal, frameOf-refusal, found-row-refusal}
 use Rattle.rules.proofs.walk.Overrun.{none-pass, frames-overrun}
@@ -150,31 +152,23 @@ module _ (s : Ship) (vs : List Row) (L : Led s vs) where
       let q : l′ ≡ 3 + length vs = omega arith in
       record { left = l; met = rw (q, x .2) (frameBehind s vs c l ls L f C); overruns = (full-length l (B .0), x .3) }) (header-refusal (2 + length vs + 1) 0 l)) (λ h eh. plain (λ e. absurd (omega arith)))
 
--- The rows in front grow by one.
-pub rows-snoc : (vs : List Row) (v : Row) (ls : List (List ℕ)) → behindRows (vs ++ (v ∷ [])) ls ≡ behindRows vs (spellBlock row v ∷ ls)
-unfolding behindRows
-rows-snoc [] v ls = refl
-rows-snoc (u ∷ vs) v ls = ap (spellBlock row u ∷_) (rows-snoc vs v ls)
-
--- The frames left, behind the ship and some rows: whatever rises from W = p on, rises behind those rows.
-tail-over : (ls : List (List ℕ)) (s : Ship) (vs : List Row) (ln k p : ℕ) → Lines ls → ok ship s ≡ true → ((ws : List Row) → Rising p ws → Rising 0 (vs ++ ws)) → length vs ≤ mostRows → ln ≡ 2 + length vs → k ≡ length vs
-    → Refusal (Two (MetOver (lead s vs ls))) (tail ls ln k p)
-unfolding tail after Lines Rising
-tail-over [] s vs ln k p B h up m a b = plain (λ e. absurd (omega arith))
-tail-over (l ∷ ls) s vs ln k p B h up m a b =
-    let L : Led s vs = record { hull = h; rising = rw append-nil at (up [] tt); many = m } in
-    rw (a, b) (bind-refusal _ _ (frame-over s vs L ls l p (full-length l (B .0)) (B .1)) (λ f ef. go L (λ vs ln k p. tail-over ls s vs ln k p (B .2) h) f (frameAt-sound (2 + length vs) (length vs) p l f (B .1) ef)))
+-- The frames left, behind the ship and some rows, the last with W = p.
+tail-over : (ls : List (List ℕ)) (s : Ship) (vs : List Row) (ln k p : ℕ) → Lines ls → Led s vs → p ≡ lastMass vs → ln ≡ 2 + length vs → k ≡ length vs → Refusal (Two (MetOver (lead s vs ls))) (tail ls ln k p)
+unfolding tail after Lines
+tail-over [] s vs ln k p B L w a b = plain (λ e. absurd (omega arith))
+tail-over (l ∷ ls) s vs ln k p B L w a b =
+    rw (a, b) (bind-refusal _ _ (frame-over s vs L ls l p (full-length l (B .0)) (B .1)) (λ f ef. go (λ vs ln k p. tail-over ls s vs ln k p (B .2)) f (frameAt-sound (2 + length vs) (length vs) p l f (B .1) ef)))
   where
-    go : Led s vs → ((vs : List Row) (ln k p : ℕ) → ((ws : List Row) → Rising p ws → Rising 0 (vs ++ ws)) → length vs ≤ mostRows → ln ≡ 2 + length vs → k ≡ length vs → Refusal (Two (MetOver (lead s vs ls))) (tail ls ln k p))
+    go : ((vs : List Row) (ln k p : ℕ) → Led s vs → p ≡ lastMass vs → ln ≡ 2 + length vs → k ≡ length vs → Refusal (Two (MetOver (lead s vs ls))) (tail ls ln k p))
         → (f : Found) → FrameSpelled (length vs) p l f → Refusal (Two (MetOver (lead s vs (l ∷ ls)))) (after (tail ls) ls (2 + length vs) (length vs) f)
-    go L w (tableRow v) T =
+    go H (tableRow v) T =
         let M = length-append vs (v ∷ []) in
-        let e : lead s (vs ++ (v ∷ [])) ls ≡ lead s vs (l ∷ ls) = ap (spellBlock ship s ∷_) (rows-snoc vs v ls ∙ ap (λ x. behindRows vs (x ∷ ls)) (T .0)) in
-        bind-refusal _ _ (rw e at (w (vs ++ (v ∷ [])) (2 + length vs + 1) (length vs + 1) (v .mass) (λ ws R. rw append-assoc (up (v ∷ ws) (T .1, R))) (omega (arith, T .2)) (omega arith) (omega arith))) (λ x ex. given)
-    go L w (theCondition c) T = bind-refusal _ _ (rw (T .0) at (closed-over s vs L c (T .2) (T .1) ls (B .2))) (λ u eu. given)
+        let e : lead s (vs ++ (v ∷ [])) ls ≡ lead s vs (l ∷ ls) = lead-snoc s vs v ls ∙ ap (λ x. lead s vs (x ∷ ls)) (T .0) in
+        bind-refusal _ _ (rw e at (H (vs ++ (v ∷ [])) (2 + length vs + 1) (length vs + 1) (v .mass) (led-snoc s vs v p L w (T .1) (T .2)) (sym (last-snoc vs v)) (omega arith) (omega arith))) (λ x ex. given)
+    go H (theCondition c) T = bind-refusal _ _ (rw (T .0) at (closed-over s vs L c (T .2) (T .1) ls (B .2))) (λ u eu. given)
 
 frames-over : (ls : List (List ℕ)) → Lines ls → Refusal (Two (MetOver ls)) (readFrames ls)
-unfolding readFrames shipFrame Lines behindRows
+unfolding readFrames shipFrame Lines behindRows lastMass
 frames-over [] B = plain (λ e. absurd (omega arith))
 frames-over (l ∷ ls) B =
     bind-refusal _ _
@@ -182,7 +176,7 @@ frames-over (l ∷ ls) B =
     test-refusal _ _ _ _ _ (λ e. absurd (omega arith)) (past-head (fixedIn-refusal 1 ship h))))
     (λ v ev.
     let S = ship-sound 1 l v (B .1) ev in
-    bind-refusal _ _ (rw (S .0) at (tail-over ls v [] 2 0 0 (B .2) (S .1) (λ ws R. R) (omega arith) refl refl)) (λ x ex. given))
+    bind-refusal _ _ (rw (S .0) at (tail-over ls v [] 2 0 0 (B .2) (led-none v (S .1)) refl refl refl)) (λ x ex. given))
 
 -- ---- a whole text
 pub two-frames : (ls : List (List ℕ)) → Lines ls → (ln o : ℕ) → (readFrames ls ≡ refused 2 ln o) ↔ ((left : List ℕ) × Met ls ln o left × Overruns left)

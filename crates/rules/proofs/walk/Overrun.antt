@@ -7,16 +7,18 @@ use native.Mathlib.Omega.{arith}
 use lib.ListN.{length, length-append}
 use Rattle.rules.specs.Text.{text, Lines}
 use Rattle.rules.specs.Blocks.{block, spellValues, spellBlock, Ship, Row, conditionTag, Weather, weather, okWeather, spellWeather, entry, groupTag}
-use Rattle.rules.specs.Layout.{Entries, end, leaf, group, spell, spellCondition, leaves, depth, Good, Rising, fewestRows, mostRows, mostDepth, mostEntries, mostBytes, mostCharacters}
+use Rattle.rules.specs.Layout.{Entries, end, leaf, group, spell, spellCondition, leaves, depth, Good, Rising, NoSlips, fewestRows, mostRows, mostDepth, mostEntries, mostBytes, mostCharacters}
 use Rattle.rules.specs.Outcome.{refused}
 use Rattle.rules.specs.Walk.{step, entries, loadAt, inside, closed, after, tail, readFrames, read}
 use Rattle.rules.specs.Met.{Passed, Meets, behind, nestedIn, Led, behindRows, lead, Met, shipsFrame, frame, frameBehind, weatherBlock, entryBlock, Overruns}
+use Rattle.rules.specs.Loading.{lastMass}
 use Rattle.rules.proofs.walk.Outcome.{bind-got, bind-refused, test-got}
 use Rattle.rules.proofs.walk.Heads.{length-block, full-block, header-got}
 use Rattle.rules.proofs.walk.Fuel.{entries-block}
 use Rattle.rules.proofs.walk.Entries.{length-leaf, length-group, full-spell, entry-passes, group-passes, entries-got}
 use Rattle.rules.proofs.walk.Conditions.{weatherBody, weather-got, inside-got}
 use Rattle.rules.proofs.walk.Frames.{ship-got, tail-row, condition-frame}
+use Rattle.rules.proofs.walk.Led.{lastFrom, last-from}
 use Rattle.rules.proofs.walk.WholeText.{read-lines}
 use Rattle.rules.proofs.layout.Parts.{full-some, header-overrun}
 use Rattle.rules.proofs.walk.BlockExits.{entries-short}
@@ -84,17 +86,20 @@ entry-overrun ln w b h l m v =
     ∙ bind-refused _ (test-got _ _ _ _ (full-some b (meets-some m (v .0))) ∙ ap (λ x. entries ln mostDepth mostEntries x b) (sym at) ∙ meets-overrun ln m (omega arith) v)
 
 -- ---- among frames
--- What is refused behind rows within their limits is refused; so behind a ship too.
-rows-refused : (vs : List Row) (ls : List (List ℕ)) (ln ln′ k k′ p : ℕ) {a b c : ℕ} → Rising p vs → ln′ ≡ ln + length vs → k′ ≡ k + length vs → k′ ≤ mostRows → ((q : ℕ) → tail ls ln′ k′ q ≡ refused a b c)
+-- What is refused behind rows as they must be is refused; so behind a ship too, and also where the last row's W does not matter.
+rows-refused : (vs : List Row) (ls : List (List ℕ)) (ln ln′ k k′ p : ℕ) {a b c : ℕ} → Rising p vs → NoSlips vs → ln′ ≡ ln + length vs → k′ ≡ k + length vs → k′ ≤ mostRows → tail ls ln′ k′ (lastFrom p vs) ≡ refused a b c
     → tail (behindRows vs ls) ln k p ≡ refused a b c
-unfolding behindRows Rising
-rows-refused [] ls ln ln′ k k′ p R u v m e = let x : ln ≡ ln′ = omega arith in let y : k ≡ k′ = omega arith in rw (x, y) (e p)
-rows-refused (r ∷ vs) ls ln ln′ k k′ p R u v m e =
-    tail-row r (behindRows vs ls) ln k p (R .0) (omega arith) ∙ bind-refused _ (rows-refused vs ls (ln + 1) ln′ (k + 1) k′ (r .mass) (R .1) (omega arith) (omega arith) m e)
+unfolding behindRows Rising NoSlips lastFrom
+rows-refused [] ls ln ln′ k k′ p R S u v m e = let x : ln ≡ ln′ = omega arith in let y : k ≡ k′ = omega arith in rw (x, y) e
+rows-refused (r ∷ vs) ls ln ln′ k k′ p R S u v m e =
+    tail-row r (behindRows vs ls) ln k p (R .0, R .1, S .0) (omega arith) ∙ bind-refused _ (rows-refused vs ls (ln + 1) ln′ (k + 1) k′ (r .mass) (R .2) (S .1) (omega arith) (omega arith) m e)
+
+pub led-last : (s : Ship) (vs : List Row) (ls : List (List ℕ)) {a b c : ℕ} → Led s vs → tail ls (2 + length vs) (length vs) (lastMass vs) ≡ refused a b c → readFrames (lead s vs ls) ≡ refused a b c
+unfolding readFrames
+led-last s vs ls L e = bind-got _ (ship-got 1 s (L .hull)) ∙ bind-refused _ (rows-refused vs ls 2 (2 + length vs) 0 (length vs) 0 (L .rising) (L .noSlips) refl (omega arith) (L .many) (rw (last-from vs) e))
 
 led-refused : (s : Ship) (vs : List Row) (ls : List (List ℕ)) {a b c : ℕ} → Led s vs → ((q : ℕ) → tail ls (2 + length vs) (length vs) q ≡ refused a b c) → readFrames (lead s vs ls) ≡ refused a b c
-unfolding readFrames
-led-refused s vs ls L e = bind-got _ (ship-got 1 s (L .hull)) ∙ bind-refused _ (rows-refused vs ls 2 (2 + length vs) 0 (length vs) 0 (L .rising) refl (omega arith) (L .many) e)
+led-refused s vs ls L e = led-last s vs ls L (e (lastMass vs))
 
 condition-refused : (body : List ℕ) (later : List (List ℕ)) (ln k q : ℕ) {a b c : ℕ} → fewestRows ≤ k → length body ≤ mostBytes → inside ln body ≡ refused a b c → tail (block conditionTag body ∷ later) ln k q ≡ refused a b c
 unfolding tail

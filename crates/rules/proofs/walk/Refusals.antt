@@ -56,9 +56,12 @@ last-refusal false n l o a = plain a
 abbrev pub NumberFrom : ℕ → ℕ → Type 0
 NumberFrom k n = (k ≤ n) × (n ≤ 6)
 
--- From k to 6, or 10: where there are rows.
+-- From k to 6, or 10: where there are rows; and that one at offset 0.
 abbrev pub UnreadFrom : ℕ → ℕ → Type 0
 UnreadFrom k n = (k ≤ n) × Unread n
+
+abbrev pub UnreadAt : ℕ → ℕ → ℕ → Type 0
+UnreadAt k n o = UnreadFrom k n × (6 < n → o ≡ 0)
 
 -- Then also: at this line and offset; at this line, from one offset on and before another; at this line and offset 0, of a row; at this line before an offset, of any frame; at no line before.
 abbrev pub At : ℕ → ℕ → ℕ → ℕ → ℕ → ℕ → Type 0
@@ -71,7 +74,7 @@ abbrev pub AtRow : ℕ → ℕ → ℕ → ℕ → ℕ → Type 0
 AtRow k ln n l o = UnreadFrom k n × (l ≡ ln) × (o ≡ 0)
 
 abbrev pub InFrame : ℕ → ℕ → ℕ → ℕ → ℕ → Type 0
-InFrame ln e n l o = UnreadFrom 2 n × (l ≡ ln) × (o < e) × (6 < n → o ≡ 0)
+InFrame ln e n l o = UnreadAt 2 n o × (l ≡ ln) × (o < e)
 
 abbrev pub NotBefore : ℕ → ℕ → ℕ → ℕ → Type 0
 NotBefore ln n l o = UnreadFrom 2 n × (ln ≤ l)
@@ -225,7 +228,7 @@ module _ (ln : ℕ) where
   unfolding found
   found-row-refusal k p h = test-refusal _ _ _ _ _ (omega arith) (bind-refusal _ _ (row-refusal p h) (λ v ev. given))
 
-  condition-refusal : (h : Head) → Refusal (Between ln 0 (3 + length (h .body))) (conditionIn ln h)
+  pub condition-refusal : (h : Head) → Refusal (Between ln 0 (3 + length (h .body))) (conditionIn ln h)
   unfolding conditionIn
   condition-refusal h = test-refusal _ _ _ _ _ (omega arith) (test-refusal _ _ _ _ _ (omega arith) (weaker (λ n l o x. (x .0, x .1, omega arith, x .4)) (inside-refusal (h .body))))
 
@@ -239,7 +242,7 @@ module _ (ln : ℕ) where
   frameAt-refusal k p l =
       bind-refusal _ _ (weaker (λ n l o x. omega arith) (header-refusal 0 l)) (λ h eh.
       let q = header-splits ln 0 l h eh in
-      bind-refusal _ _ (weaker (λ n l o x. omega arith) (frameOf-refusal (h .tag))) (λ t et. weaker (λ n l o x. (x .0, x .1, omega arith, x .3)) (found-refusal k p h t)))
+      bind-refusal _ _ (weaker (λ n l o x. omega arith) (frameOf-refusal (h .tag))) (λ t et. weaker (λ n l o x. (x .0, x .1, omega arith)) (found-refusal k p h t)))
 
   pub shipFrame-refusal : (l : List ℕ) → Refusal (At 2 ln 0) (shipFrame ln l)
   unfolding shipFrame

@@ -33,7 +33,7 @@ sound t r e =
     let L = lines-sound 1 t (b .0) (b .1) in
     let F = readFrames-sound (b .0) r (L .1) (b .2) in
     let p : text (frames r) ≡ t = ap text (F .spells) ∙ L .0 in
-    (record { hull = F .hull; rising = F .rising; few = F .few; many = F .many; loaded = F .loaded; long = omega (arith, ap length p, leb-true (length t) mostCharacters (a .0)) }, p)
+    (record { hull = F .hull; rising = F .rising; noSlips = F .noSlips; few = F .few; many = F .many; loaded = F .loaded; long = omega (arith, ap length p, leb-true (length t) mostCharacters (a .0)) }, p)
 
 -- Its lines are the frames of what is read.
 pub lines-of-reading : (t : List ℕ) (r : Reading) → read t ≡ got r → linesFrom 1 t ≡ got (frames r)
@@ -46,7 +46,7 @@ lines-of-reading t r e =
 pub complete : (r : Reading) → Limits r → read (spellText r) ≡ got r
 unfolding spellText
 complete r l =
-    let F : Framed r (frames r) = record { spells = refl; hull = l .hull; rising = l .rising; few = l .few; many = l .many; loaded = l .loaded } in
+    let F : Framed r (frames r) = record { spells = refl; hull = l .hull; rising = l .rising; noSlips = l .noSlips; few = l .few; many = l .many; loaded = l .loaded } in
     read-lines (frames r) (Lines-frames r F) (l .long) ∙ readFrames-got r F
 
 -- Read exactly when allowed.

@@ -1,4 +1,4 @@
--- `is_smooth` meets its contract: after i turns none of the inner values before i is bent.
+-- `is_smooth` meets its contract: none of the inner values before i is bent.
 use mathlib.Core.Path.{_≡_, refl, sym, _∙_}
 use Prim.Native.Nat.{_≤_, _-_}
 use native.Mathlib.Omega.{arith}
@@ -19,32 +19,32 @@ abbrev μ-loop : tie.MeasureT-loop
 loop-holds : tie.Need-loop-holds Inv-loop μ-loop
 loop-holds c = (omega arith, omega arith, refl)
 
-sub-not-bent : tie.Need-sub-not-bent Inv-loop μ-loop
-sub-not-bent c = search needs
+sub-unbent : tie.Need-sub-unbent Inv-loop μ-loop
+sub-unbent c = search needs
 
-mul-not-bent : tie.Need-mul-not-bent Inv-loop μ-loop
-mul-not-bent c = search needs
+mul-unbent : tie.Need-mul-unbent Inv-loop μ-loop
+mul-unbent c = search needs
 
-array-read-not-bent : tie.Need-array-read-not-bent Inv-loop μ-loop
-array-read-not-bent c = search needs
+array-read-unbent : tie.Need-array-read-unbent Inv-loop μ-loop
+array-read-unbent c = search needs
 
-mul-not-bent-2 : tie.Need-mul-not-bent-2 Inv-loop μ-loop
-mul-not-bent-2 c = search needs
+mul-unbent-2 : tie.Need-mul-unbent-2 Inv-loop μ-loop
+mul-unbent-2 c = search needs
 
-array-read-not-bent-2 : tie.Need-array-read-not-bent-2 Inv-loop μ-loop
-array-read-not-bent-2 c = search needs
+array-read-unbent-2 : tie.Need-array-read-unbent-2 Inv-loop μ-loop
+array-read-unbent-2 c = search needs
 
-add-not-bent : tie.Need-add-not-bent Inv-loop μ-loop
-add-not-bent c = search needs
+add-unbent : tie.Need-add-unbent Inv-loop μ-loop
+add-unbent c = search needs
 
-mul-not-bent-3 : tie.Need-mul-not-bent-3 Inv-loop μ-loop
-mul-not-bent-3 c = search needs
+mul-unbent-3 : tie.Need-mul-unbent-3 Inv-loop μ-loop
+mul-unbent-3 c = search needs
 
-array-read-not-bent-3 : tie.Need-array-read-not-bent-3 Inv-loop μ-loop
-array-read-not-bent-3 c = search needs
+array-read-unbent-3 : tie.Need-array-read-unbent-3 Inv-loop μ-loop
+array-read-unbent-3 c = search needs
 
-not-bent-requires : tie.Need-not-bent-requires Inv-loop μ-loop
-not-bent-requires c κs = search needs
+unbent-requires : tie.Need-unbent-requires Inv-loop μ-loop
+unbent-requires c κs = search needs
 
 returns : tie.Need-returns Inv-loop μ-loop
 returns c =
@@ -52,7 +52,7 @@ returns c =
     let l = t .before in
     let kn = l .before .args .t1 in
     let h : length kn ≡ 13 = omega (arith, l .before .good) in
-    sym (l .loop .inv .2 ∙ smooth-stop kn h (l .loop .i) (l .loop .inv .0) (t .loop-test .taken) (sym (c .before .not-bent .ensures) ∙ not-true _ (c .if1 .taken)))
+    sym (l .loop .inv .2 ∙ smooth-stop kn h (l .loop .i) (l .loop .inv .0) (omega (arith, t .loop-test .taken)) (sym (c .before .unbent .ensures) ∙ not-true _ (c .if1 .taken)))
 
 add-i : tie.Need-add-i Inv-loop μ-loop
 add-i c = search needs
@@ -66,7 +66,7 @@ loop-again c =
     let l = t .before in
     let kn = l .before .args .t1 in
     let h : length kn ≡ 13 = omega (arith, l .before .good) in
-    (omega arith, omega arith, l .loop .inv .2 ∙ smooth-next kn h (l .loop .i) (l .loop .inv .0) (t .loop-test .taken) (sym (c .before .not-bent .ensures) ∙ not-false _ (c .if1 .left)))
+    (omega arith, omega arith, l .loop .inv .2 ∙ smooth-next kn h (l .loop .i) (l .loop .inv .0) (omega (arith, t .loop-test .taken)) (sym (c .before .unbent .ensures) ∙ not-false _ (c .if1 .left)))
 
 returns-2 : tie.Need-returns-2 Inv-loop μ-loop
 returns-2 c =
@@ -83,15 +83,15 @@ is-smooth-spec =
     Inv-loop
     μ-loop
     loop-holds
-    sub-not-bent
-    mul-not-bent
-    array-read-not-bent
-    mul-not-bent-2
-    array-read-not-bent-2
-    add-not-bent
-    mul-not-bent-3
-    array-read-not-bent-3
-    not-bent-requires
+    sub-unbent
+    mul-unbent
+    array-read-unbent
+    mul-unbent-2
+    array-read-unbent-2
+    add-unbent
+    mul-unbent-3
+    array-read-unbent-3
+    unbent-requires
     returns
     add-i
     loop-less
