@@ -4,12 +4,18 @@ ghost use lib.ListN.{length};
 use libc::STDOUT_FILENO;
 use numbers::least;
 
-// A number of one or two digits in a line of its own.
-fn print_number(number: u8) -> bool
-    requires { ⌜ number ≤ 99 ⌝ }
-{
-    let line = [48 + number / 10, 48 + number % 10, b'\n'];
+// A number in decimal, in a line of its own.
+fn print_number(number: u8) -> bool {
+    let line = [
+        48 + number / 100,
+        48 + number / 10 % 10,
+        48 + number % 10,
+        b'\n',
+    ];
     if number < 10 {
+        return io::write_all(STDOUT_FILENO, &line[2..]);
+    }
+    if number < 100 {
         return io::write_all(STDOUT_FILENO, &line[1..]);
     }
     io::write_all(STDOUT_FILENO, &line)
@@ -17,7 +23,7 @@ fn print_number(number: u8) -> bool
 
 // The number, and so many bytes of the buffer.
 fn print_reply(number: u8, written: usize, report: &[u8]) -> bool
-    requires { ⌜ (number ≤ 99) × (written ≤ length (now report)) ⌝ }
+    requires { ⌜ written ≤ length (now report) ⌝ }
 {
     if !print_number(number) {
         return false;

@@ -14,10 +14,10 @@ use Rattle.rules.proofs.answer.Steps.{report-refused}
 use Rattle.rules.proofs.booklet.Sent.{number-taken, written-taken}
 use Rattle.rules.proofs.booklet.Room.{with-room}
 use Rattle.rules.proofs.bench.Cases.{lines, refusal}
-use Rattle.rules.proofs.bench.Bench.{ship, row1, row2, with, P1, P1-output}
+use Rattle.rules.proofs.bench.Bench.{ship, row1, row2, with, P1-condition, P1, P1-output}
 use Rattle.rules.proofs.bench.CargoTank.{tanker}
 use Rattle.rules.proofs.bench.TimberDeck.{tender, coaster}
-use Rattle.rules.proofs.bench.MistypedRow.{digitMissing, above400, below400}
+use Rattle.rules.proofs.bench.MistypedRow.{digitMissing, above400, below400, above800, below800}
 use Rattle.instrument.specs.Reported.{reportIn}
 use Rattle.instrument.proofs.Replies.{whole-sent}
 use Rattle.instrument.proofs.OfOne.{isOne, one-read, room-one, sent-one}
@@ -52,16 +52,16 @@ pub timbers-one : (isOne (readWhole mostCharacters (tender "C1")) ≡ true) × (
 unfolding taken readWhole
 timbers-one = (refl, refl, refl, refl)
 
-pub even-one : (isOne (readWhole mostCharacters above400) ≡ true) × (isOne (readWhole mostCharacters below400) ≡ true)
+pub smooth-one : (isOne (readWhole mostCharacters above400) ≡ true) × (isOne (readWhole mostCharacters below400) ≡ true) × (isOne (readWhole mostCharacters above800) ≡ true) × (isOne (readWhole mostCharacters below800) ≡ true)
 unfolding taken readWhole
-even-one = (refl, refl)
+smooth-one = (refl, refl, refl, refl)
 
 -- The first is judged, and so are these.
 pub judged-0 : (numberOf (answered P1) ≡ 0) × (numberOf (answered (tanker "C3")) ≡ 0) × (numberOf (answered (tanker "C5")) ≡ 0)
     × (numberOf (answered (tender "C1")) ≡ 0) × (numberOf (answered (tender "C6")) ≡ 0) × (numberOf (answered (coaster "C1")) ≡ 0) × (numberOf (answered (coaster "C6")) ≡ 0)
-    × (numberOf (answered above400) ≡ 0) × (numberOf (answered below400) ≡ 0)
+    × (numberOf (answered above400) ≡ 0) × (numberOf (answered below400) ≡ 0) × (numberOf (answered above800) ≡ 0) × (numberOf (answered below800) ≡ 0)
 unfolding answered
-judged-0 = (refl, refl, refl, refl, refl, refl, refl, refl, refl)
+judged-0 = (refl, refl, refl, refl, refl, refl, refl, refl, refl, refl, refl)
 
 -- P12, the empty text, is refused for the whole, and so is a table with a digit missing.
 pub empty-whole : (readWhole mostCharacters [] ≡ refused 5 0 0) × (room mostCharacters [] ≡ reportLength)
@@ -82,7 +82,7 @@ refusal-sent t {m} {l} w e f before N W h =
 -- ---- a booklet of three
 -- P1's ship and rows, its condition, that of P13 and that of P10.
 abbrev pub three : List ℕ
-three = lines (ship ∷ row1 ∷ row2 ∷ "A30018C1000C000009C40FA002BC01F400C8C2000600155CC00FA0" ∷ "A30018C1000C000009C40FA002BC01F400C8C2000600155CBF0FA0" ∷ "A30018C1000C000009C40FA002BC01F400C8C2000700155CC00FA0" ∷ [])
+three = lines (ship ∷ row1 ∷ row2 ∷ P1-condition ∷ "A30018C1000C000009C40FA002BC01F400C8C2000600155CBF0FA0" ∷ "A30018C1000C000009C40FA002BC01F400C8C2000700155CC00FA0" ∷ [])
 
 abbrev pub three-reports : List (List ℕ)
 three-reports = P1-output ∷ refusal "D100650700000000" ∷ refusal "D100650200060012" ∷ []

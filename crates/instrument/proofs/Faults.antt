@@ -2,7 +2,7 @@
 use mathlib.Core.Path.{_≡_, refl, ap, sym, _∙_}
 use mathlib.Core.Bool.{Bool, true, false}
 use mathlib.Core.List.{List}
-use mathlib.Core.Logic.{_↔_, _≢_, inl, inr}
+use mathlib.Core.Logic.{_↔_, _≢_, _⊎_, inl, inr}
 use Prim.Native.Nat.{ℕ, _+_, _≤_, _<_}
 use native.Mathlib.Omega.{arith}
 use native.Mathlib.Decide.{decLe}
@@ -29,10 +29,10 @@ use Rattle.rules.proofs.booklet.Alone.{answer-at}
 use Rattle.rules.proofs.booklet.WhereRefused.{two-whole, four-whole, five-whole, ten-whole}
 use Rattle.rules.proofs.booklet.LineOverrun.{two-line}
 use Rattle.instrument.specs.Faults.{NoLineAt, WholeOverrunAt, MisplacedAt, OwedAt, SlipAt, LineOverrunAt}
-use Rattle.instrument.specs.Reported.{reportIn, HasNumber, RefusedWhole}
+use Rattle.instrument.specs.Reported.{reportIn, HasNumber, RefusedWhole, EachAnswered}
 use Rattle.instrument.proofs.FirstNumber.{first-of}
 use Rattle.instrument.proofs.LineReport.{Reports, by-line, has-refused, read-by, one-number}
-use Rattle.instrument.proofs.Replies.{read-back, by-whole, Run, whole-sent, numbered-first, line-report}
+use Rattle.instrument.proofs.Replies.{read-back, by-whole, Run, whole-sent, numbered-first, line-report, every}
 
 -- ---- 1
 -- A refusal is the same of whatever it is.
@@ -121,11 +121,19 @@ module _ {t before : List ℕ} {n : ℕ} {after : List ℕ} (run : Run t before 
   pub whole-owed : (l : ℕ) → (((refusal : RefusedWhole t before n after) × (n ≡ 5) × (refusal .line ≡ l)) ↔ OwedAt t l) × (OwedAt t l → reportIn 0 after ≡ report 5 l 0 noJudgement)
   whole-owed = whole-at 5 (OwedAt t) (omega arith) (λ l. (λ e. five-whole mostCharacters t l 0 .0 e .1, λ v. five-whole mostCharacters t l 0 .1 (refl, v)))
 
-  pub whole-slip : (l : ℕ) → (((refusal : RefusedWhole t before n after) × (n ≡ 10) × (refusal .line ≡ l)) ↔ SlipAt t l) × (SlipAt t l → reportIn 0 after ≡ report 10 l 0 noJudgement)
-  whole-slip = whole-at 10 (SlipAt t) (omega arith) (λ l. (
+  slip-at : (l : ℕ) → (((refusal : RefusedWhole t before n after) × (n ≡ 10) × (refusal .line ≡ l)) ↔ SlipAt t l) × (SlipAt t l → reportIn 0 after ≡ report 10 l 0 noJudgement)
+  slip-at = whole-at 10 (SlipAt t) (omega arith) (λ l. (
     λ e. let f = lines-of-refused mostCharacters t 10 l 0 e (λ z. omega arith) (λ z. omega arith) in (f .0, f .1, ten-whole mostCharacters t (f .0) (f .1) l 0 .0 e .1),
     λ v. ten-whole mostCharacters t (v .0) (v .1) l 0 .1 (refl, v .2),
   ))
+
+  -- No condition has 10.
+  pub slip-sent : ((n ≡ 10) ↔ ((l : ℕ) × SlipAt t l)) × ((l : ℕ) → SlipAt t l → reportIn 0 after ≡ report 10 l 0 noJudgement)
+  slip-sent = ((λ e. go e (every run .2), λ v. slip-at (v .0) .0 .1 (v .1) .1), λ l. slip-at l .1)
+    where
+      go : n ≡ 10 → RefusedWhole t before n after ⊎ EachAnswered t before n after → (l : ℕ) × SlipAt t l
+      go e (inl r) = (r .line, slip-at (r .line) .0 .0 (r, e, refl))
+      go e (inr x) = absurd (omega (arith, x .to8))
 
   module _ (a : AllowedWhole mostCharacters t) (k : ℕ) (h : k < length (a .0 .conditions)) where
     abbrev here : Reports (a .0 .ship) (a .0 .rows) (lineNumber (a .0) k) (lineAt (a .0) k) (reportIn k after)

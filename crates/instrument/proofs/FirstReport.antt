@@ -1,7 +1,7 @@
 -- The number sent back for a booklet is that of its first report with another number than 0.
 use mathlib.Core.Path.{_≡_, refl, sym, _∙_}
 use mathlib.Core.List.{List}
-use mathlib.Core.Logic.{_↔_}
+use mathlib.Core.Logic.{_↔_, _⊎_, inl, inr}
 use Prim.Native.Nat.{ℕ, _+_, _≤_, _<_}
 use native.Mathlib.Omega.{arith}
 use lib.ListN.{length}
@@ -14,10 +14,10 @@ use Rattle.rules.specs.Answer.{numberOf, answerAt, answers, answer}
 use Rattle.rules.proofs.booklet.Conditions.{answer-refusal}
 use Rattle.rules.proofs.booklet.Sent.{answers-length}
 use Rattle.rules.proofs.booklet.Alone.{answer-at}
-use Rattle.instrument.specs.Reported.{reportIn, HasNumber}
+use Rattle.instrument.specs.Reported.{reportIn, HasNumber, RefusedWhole, EachAnswered}
 use Rattle.instrument.proofs.Numbered.{number-reported, number-told}
 use Rattle.instrument.proofs.FirstNumber.{numberAt, zero-iff-all, first-of}
-use Rattle.instrument.proofs.Replies.{Run, numbered-first, report-at}
+use Rattle.instrument.proofs.Replies.{Run, numbered-first, report-at, every}
 
 to-8 : (s : Ship) (vs : List Row) (ln : ℕ) (l : List ℕ) → numberOf (answerAt s vs ln l) ≤ 8
 to-8 s vs ln l = go (answerAt s vs ln l) refl
@@ -54,3 +54,12 @@ module _ {t before : List ℕ} {n : ℕ} {after : List ℕ} (run : Run t before 
             let k : x .0 < count = omega (arith, x .1) in
             (x .0, k, (rw (x .2 ∙ sym f) at (has-own (x .0) k)), λ i g. zero-iff i (omega arith) .1 (x .3 i g)),
       )
+
+-- No text that is refused for the whole has 0.
+pub zero-sent : {t before : List ℕ} {n : ℕ} {after : List ℕ} → Run t before n after
+    → (n ≡ 0) ↔ ((a : AllowedWhole mostCharacters t) × ((k : ℕ) → k < length (a .0 .conditions) → HasNumber 0 (reportIn k after)))
+zero-sent {t} {before} {n} {after} run = (λ z. go z (every run .2), λ x. first-sent run (x .0) .0 .1 (x .1))
+  where
+    go : n ≡ 0 → RefusedWhole t before n after ⊎ EachAnswered t before n after → (a : AllowedWhole mostCharacters t) × ((k : ℕ) → k < length (a .0 .conditions) → HasNumber 0 (reportIn k after))
+    go z (inl r) = absurd (omega (arith, r .unread))
+    go z (inr x) = (x .allowed, first-sent run (x .allowed) .0 .0 z)

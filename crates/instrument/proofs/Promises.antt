@@ -28,7 +28,7 @@ use Rattle.rules.specs.Met.{Overruns}
 use Rattle.rules.specs.Places.{Placed, SameBefore, lookedAt}
 use Rattle.rules.specs.Booklet.{readWhole, conditionAt}
 use Rattle.rules.specs.Apart.{spellBooklet, AllowedWhole, AllowedLine, LinesWithin, lineAt, readingAt, alone, respelt, LastAlone, Misplaced, lineNumber}
-use Rattle.rules.specs.Mistyped.{FarApart, valueAt, Bent, nthRow, retypedIn}
+use Rattle.rules.specs.Mistyped.{knValue, Bent, FarOff, nthRow, retypedIn}
 use Rattle.rules.specs.Answer.{answered, numberOf, reportOf, inLine, number, bytesSent, written, limited}
 use Rattle.rules.specs.Answer as answers
 use Rattle.rules.proofs.walk.Retagged.{tanks-alike}
@@ -42,7 +42,7 @@ use Rattle.rules.proofs.bench.Cases.{refusal}
 use Rattle.rules.proofs.bench.Bench.{P1, P1-output, bench-holds}
 use Rattle.rules.proofs.bench.CargoTank.{tanker, cargo-output, planner-holds}
 use Rattle.rules.proofs.bench.TimberDeck.{tender, tender-output, tender-timber-output, coaster, coaster-output, coaster-timber-output, timbers-hold}
-use Rattle.rules.proofs.bench.MistypedRow.{digitMissing, above400, below400, mistyped-hold}
+use Rattle.rules.proofs.bench.MistypedRow.{digitMissing, above400, below400, above800, below800, mistyped-hold}
 use Rattle.rules.proofs.bench.Regrouped.{regrouped, asOne, asGroup, reads-as, same-sums, two-texts}
 use Rattle.instrument.specs.Reported.{reportIn, numberIn, HasNumber, RefusedLine, SameButLine, RefusedAt, RefusedWhole, EachAnswered}
 use Rattle.instrument.specs.Faults.{NoLineAt, WholeOverrunAt, MisplacedAt, OwedAt, SlipAt, LineOverrunAt}
@@ -52,7 +52,7 @@ use Rattle.instrument.proofs.judge.Reads as judge
 use Rattle.instrument.proofs.judge_within.Reads as within
 use Rattle.instrument.proofs.room.Reads as asks
 use Rattle.instrument.proofs.Replies as replies
-use Rattle.instrument.proofs.FirstReport.{first-sent}
+use Rattle.instrument.proofs.FirstReport.{first-sent, zero-sent}
 use Rattle.instrument.proofs.Placed.{whole-placed, placed-report}
 use Rattle.instrument.proofs.Faults as faults
 use Rattle.instrument.proofs.LineReport as lines
@@ -116,6 +116,10 @@ module _ (text before : List ℕ) (n : ℕ) (after : List ℕ) (run : Judges tex
     pub whole-iff-allowed : (RefusedWhole text before n after ↔ (¬ AllowedWhole mostCharacters text)) × (EachAnswered text before n after ↔ AllowedWhole mostCharacters text)
     whole-iff-allowed = replies.whole-iff ran
 
+    -- The number is 0 exactly when the text is allowed as a whole and every report has the number 0: then, and only then, is every condition judged.
+    pub zero-iff-judged : (n ≡ 0) ↔ ((a : AllowedWhole mostCharacters text) × ((k : ℕ) → k < length (a .0 .conditions) → HasNumber 0 (reportIn k after)))
+    zero-iff-judged = zero-sent ran
+
     -- ---- demand 1, for the whole: a refusal says what and where
     -- A text that is refused for the whole gets that refusal's number, and its one report has the number, the line and the offset, verdicts 3 and figures 0.
     pub refusal-reported : (m l o : ℕ) → readWhole mostCharacters text ≡ refused m l o → (n ≡ m) × (reportIn 0 after ≡ report m l o noJudgement) × (drop reportLength after ≡ drop reportLength before)
@@ -146,14 +150,14 @@ module _ (text before : List ℕ) (n : ℕ) (after : List ℕ) (run : Judges tex
     pub four-iff-misplaced : (l : ℕ) → (((refusal : RefusedWhole text before n after) × (n ≡ 4) × (refusal .line ≡ l)) ↔ MisplacedAt text l) × (MisplacedAt text l → reportIn 0 after ≡ report 4 l 0 noJudgement)
     four-iff-misplaced = faults.whole-misplaced ran
 
-    -- A text is refused with 5 for the whole, at a line, exactly when it is lines within 180,000 characters and that line is the 25th that begins with A3, whatever else the text holds; or when at most 24 do, and no A3 comes behind the ship and rows within their limits, or the text is empty: the line is then the number of lines. Its one report has the line.
+    -- A text is refused with 5 for the whole, at a line, exactly when it is lines within 180,000 characters and that line is the 25th that begins with A3, whatever else the text holds; or when at most 24 do, and no A3 comes behind the ship and rows as they must be, or the text is empty: the line is then the number of lines. Its one report has the line.
     pub five-iff-owed : (l : ℕ) → (((refusal : RefusedWhole text before n after) × (n ≡ 5) × (refusal .line ≡ l)) ↔ OwedAt text l) × (OwedAt text l → reportIn 0 after ≡ report 5 l 0 noJudgement)
     five-iff-owed = faults.whole-owed ran
 
-    -- A text is refused with 10 for the whole, at a line, exactly when it is lines, within 180,000 characters and with at most 24 that begin with A3, in which that line is a row with a typing slip: ship and rows before it are as they must be, and so is it, in its place, its limits and its W,
-    -- but for one of its inner KN values, which, doubled, differs from the sum of its two neighbours by more than 400. Its one report has the line.
-    pub ten-iff-slip : (l : ℕ) → (((refusal : RefusedWhole text before n after) × (n ≡ 10) × (refusal .line ≡ l)) ↔ SlipAt text l) × (SlipAt text l → reportIn 0 after ≡ report 10 l 0 noJudgement)
-    ten-iff-slip = faults.whole-slip ran
+    -- The number is 10 exactly when the text is lines, within 180,000 characters and with at most 24 that begin with A3, in which one is a row with a typing slip: ship and rows before it are as they must be, and so is it, in its place, its limits and its W,
+    -- but for one of its inner KN values, which, doubled, differs from the sum of its two neighbours by more than 400. Then its one report has that line.
+    pub ten-iff-slip : ((n ≡ 10) ↔ ((l : ℕ) × SlipAt text l)) × ((l : ℕ) → SlipAt text l → reportIn 0 after ≡ report 10 l 0 noJudgement)
+    ten-iff-slip = faults.slip-sent ran
 
     -- ---- the conditions of a text that is allowed as a whole
     module _ (a : AllowedWhole mostCharacters text) where
@@ -161,20 +165,6 @@ module _ (text before : List ℕ) (n : ℕ) (after : List ℕ) (run : Judges tex
       pub number-is-first : ((n ≡ 0) ↔ ((k : ℕ) → k < length (a .0 .conditions) → HasNumber 0 (reportIn k after)))
           × (1 ≤ n → (k : ℕ) × (k < length (a .0 .conditions)) × HasNumber n (reportIn k after) × ((i : ℕ) → i < k → HasNumber 0 (reportIn i after)))
       number-is-first = first-sent ran a
-
-      -- ---- typing slips
-      -- No inner value of a row is wrong by more than 400 against the straight line of its neighbours, doubled.
-      pub typing-slip : (k i : ℕ) → k < length (a .0 .rows) → 1 ≤ i → i ≤ 11 → ¬ Bent (nthRow (a .0 .rows) k .kn) i
-      typing-slip = booklets.typing-slip mostCharacters text (a .0) (replies.read-back a)
-
-      -- Take one of its rows and one inner value of it, and let that value be another, within its limits and more than 400 off, all else being the same: with room, that text gets 10, and its one report has that row's line.
-      pub slip-caught : (k i v : ℕ) → k < length (a .0 .rows) → 1 ≤ i → i ≤ 11 → v ≤ 30_000 → FarApart (valueAt (nthRow (a .0 .rows) k .kn) i) v
-          → (before′ : List ℕ) (n′ : ℕ) (after′ : List ℕ) → Judges (spellBooklet (retypedIn (a .0) k i v)) before′ n′ after′ → answers.room mostCharacters (spellBooklet (retypedIn (a .0) k i v)) ≤ length before′
-          → (n′ ≡ 10) × (reportIn 0 after′ ≡ report 10 (2 + k) 0 noJudgement)
-      slip-caught k i v h from to d f before′ n′ after′ run′ room =
-          let q = contract _ before′ n′ after′ .0 run′ in
-          let s = replies.whole-sent (record { numbered = q .0; left = q .1; enough = room }) 10 (2 + k) 0 (booklets.slip-caught mostCharacters text (a .0) (replies.read-back a) k i v h from to d f) in
-          (s .0, s .1)
 
       module _ (k : ℕ) (h : k < length (a .0 .conditions)) where
         abbrev line : lines.Reports (a .0 .ship) (a .0 .rows) (lineNumber (a .0) k) (lineAt (a .0) k) (reportIn k after)
@@ -263,10 +253,24 @@ one-booklet = booklets.one-booklet mostCharacters
 pub one-condition : (l : List ℕ) (c c′ : AllowedLine l) → c .0 ≡ c′ .0
 one-condition = booklets.one-condition
 
--- A row that is read and one that differs from it in a single inner value, by more than 400, are not both read, in whatever two texts they stand: never are both allowed as a whole, and so answered condition by condition.
-pub not-both-read : (text text′ : List ℕ) (a : AllowedWhole mostCharacters text) (a′ : AllowedWhole mostCharacters text′) (k k′ i v : ℕ) → k < length (a .0 .rows) → k′ < length (a′ .0 .rows) → 1 ≤ i → i ≤ 11
-    → nthRow (a′ .0 .rows) k′ .kn ≡ set (nthRow (a .0 .rows) k .kn) i v → ¬ FarApart (valueAt (nthRow (a .0 .rows) k .kn) i) v
-not-both-read text text′ a a′ = booklets.not-both-read mostCharacters mostCharacters text text′ (a .0) (a′ .0) (replies.read-back a) (replies.read-back a′)
+-- ---- typing slips
+-- In a text whose conditions are answered no inner value of a row is wrong by more than 400 against the straight line of its neighbours, doubled.
+pub typing-slip : {text before : List ℕ} {n : ℕ} {after : List ℕ} (x : EachAnswered text before n after) (k i : ℕ) → k < length (x .allowed .0 .rows) → 1 ≤ i → i ≤ 11 → ¬ Bent (nthRow (x .allowed .0 .rows) k .kn) i
+typing-slip {text} x = let a = x .allowed in booklets.typing-slip mostCharacters text (a .0) (replies.read-back a)
+
+-- A row that is read and one that differs from it in a single value, at 5 to 55 degrees by more than 400 or at 60 degrees by more than 800, are not both read, in whatever two texts they stand: never are the conditions of both answered.
+pub not-both-read : {text before text′ before′ : List ℕ} {n n′ : ℕ} {after after′ : List ℕ} (x : EachAnswered text before n after) (x′ : EachAnswered text′ before′ n′ after′) (k k′ i v : ℕ) → k < length (x .allowed .0 .rows) → k′ < length (x′ .allowed .0 .rows)
+    → nthRow (x′ .allowed .0 .rows) k′ .kn ≡ set (nthRow (x .allowed .0 .rows) k .kn) i v → ¬ FarOff i (knValue (nthRow (x .allowed .0 .rows) k .kn) i) v
+not-both-read {text} {text′ = text′} x x′ = let a = x .allowed in let a′ = x′ .allowed in booklets.not-both-read mostCharacters mostCharacters text text′ (a .0) (a′ .0) (replies.read-back a) (replies.read-back a′)
+
+-- And the one typed wrong is caught. Take a text that is allowed as a whole, one of its rows and one value of it, and let that value be another, within its limits and as far off as that, all else being the same: with room, that text gets 10, and its one report has that row's line.
+pub slip-caught : (text : List ℕ) (a : AllowedWhole mostCharacters text) (k i v : ℕ) → k < length (a .0 .rows) → v ≤ 30_000 → FarOff i (knValue (nthRow (a .0 .rows) k .kn) i) v
+    → (before : List ℕ) (n : ℕ) (after : List ℕ) → Judges (spellBooklet (retypedIn (a .0) k i v)) before n after → answers.room mostCharacters (spellBooklet (retypedIn (a .0) k i v)) ≤ length before
+    → (n ≡ 10) × (reportIn 0 after ≡ report 10 (2 + k) 0 noJudgement)
+slip-caught text a k i v h d f before n after run room =
+    let q = contract _ before n after .0 run in
+    let s = replies.whole-sent (record { numbered = q .0; left = q .1; enough = room }) 10 (2 + k) 0 (booklets.slip-caught mostCharacters text (a .0) (replies.read-back a) k i v h d f) in
+    (s .0, s .1)
 
 -- ---- the sums settle the report
 -- Two conditions, of one text or of two, each with room, that say one ship, table and weather, and whose entries have the same sum of masses and the same sum of moments with free surface moments, get the same report, character by character:
@@ -390,8 +394,8 @@ Sends text m r = (before : List ℕ) (n : ℕ) (after : List ℕ) → Judges tex
 sends : (text : List ℕ) {m : ℕ} {r : List ℕ} → ones.isOne (readWhole mostCharacters text) ≡ true → numberOf (answered text) ≡ m → reportOf (answered text) ≡ r → Sends text m r
 sends text one e f before n after run room = let q = contract text before n after .0 run in sheet.one-sent text one e f before (q .0) (q .1) room
 
-refuses : (text : List ℕ) {m l : ℕ} {r : List ℕ} → (readWhole mostCharacters text ≡ refused m l 0) × (answers.room mostCharacters text ≡ reportLength) → answered text ≡ refused m l 0 → reportOf (answered text) ≡ r → Sends text m r
-refuses text w e f before n after run room = let q = contract text before n after .0 run in sheet.refusal-sent text w e f before (q .0) (q .1) room
+sends-refusal : (text : List ℕ) {m l : ℕ} {r : List ℕ} → (readWhole mostCharacters text ≡ refused m l 0) × (answers.room mostCharacters text ≡ reportLength) → answered text ≡ refused m l 0 → reportOf (answered text) ≡ r → Sends text m r
+sends-refusal text w e f before n after run room = let q = contract text before n after .0 run in sheet.refusal-sent text w e f before (q .0) (q .1) room
 
 -- The texts of the bench sheet, P1 and P10 to P13: each gets its number and its whole report. (P2 to P9 are numbers on the way to P1's; the rules have them.)
 pub bench-sheet : Sends P1 0 P1-output × Sends P10 2 (refusal "D100650200040012") × Sends P11 3 (refusal "D100650300040012") × Sends [] 5 (refusal "D100650500000000") × Sends P13 7 (refusal "D100650700000000")
@@ -401,7 +405,7 @@ bench-sheet =
       sends P1 (sheet.sheet-one .0) (sheet.judged-0 .0) (b .0),
       sends P10 (sheet.sheet-one .1) (ap numberOf (r .0 .0)) (r .0 .1),
       sends P11 (sheet.sheet-one .2) (ap numberOf (r .1 .0 .0)) (r .1 .0 .1),
-      refuses [] sheet.empty-whole (r .1 .1 .0 .0) (r .1 .1 .0 .1),
+      sends-refusal [] sheet.empty-whole (r .1 .1 .0 .0) (r .1 .1 .0 .1),
       sends P13 (sheet.sheet-one .3) (ap numberOf (r .1 .1 .1 .0 .0)) (r .1 .1 .1 .0 .1),
     )
 
@@ -423,13 +427,17 @@ neither-set-covers = (
   sends (coaster "C6") (sheet.timbers-one .3) (sheet.judged-0 .6) (timbers-hold .1 .1 .1 .1 .0),
 )
 
--- A digit missing in P1's second row, 230 for 2,300 at 30 degrees: 10 in line 3. With 2,462 there and with 2,062, which differ by 400 and lie 400 on either side of the neighbours, the text is judged: `not-both-read` says no more than holds.
-pub digit-missing : Sends digitMissing 10 (refusal "D100650A00030000") × Sends above400 0 P1-output × Sends below400 0 P1-output
-digit-missing = (
-  refuses digitMissing sheet.mistyped-whole (mistyped-hold .0 .0) (mistyped-hold .0 .1),
-  sends above400 (sheet.even-one .0) (sheet.judged-0 .7) (mistyped-hold .1 .0),
-  sends below400 (sheet.even-one .1) (sheet.judged-0 .8) (mistyped-hold .1 .1 .0),
-)
+-- A digit missing in P1's second row, 230 for 2,300 at 30 degrees: 10 in line 3. With 2,462 there and with 2,062, which differ by 400, the text is judged, and so it is with 3,790 and 2,990 at 60 degrees, which differ by 800: `not-both-read` says no more than holds.
+pub digit-missing : Sends digitMissing 10 (refusal "D100650A00030000") × Sends above400 0 P1-output × Sends below400 0 P1-output × Sends above800 0 P1-output × Sends below800 0 P1-output
+digit-missing =
+    let h = mistyped-hold .1 in
+    let one = sheet.smooth-one in (
+      sends-refusal digitMissing sheet.mistyped-whole (mistyped-hold .0 .0) (mistyped-hold .0 .1),
+      sends above400 (one .0) (sheet.judged-0 .7) (h .0),
+      sends below400 (one .1) (sheet.judged-0 .8) (h .1 .0),
+      sends above800 (one .2) (sheet.judged-0 .9) (h .1 .1 .0),
+      sends below800 (one .3) (sheet.judged-0 .10) (h .1 .1 .1 .0),
+    )
 
 -- ---- how much room
 -- One run of `room` as its contract admits it: lent `text`, it sends back `r`.

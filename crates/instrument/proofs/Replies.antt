@@ -73,7 +73,9 @@ module _ {t before : List ℕ} {n : ℕ} {after : List ℕ} (run : Run t before 
     beyond-at = ap (drop (reportLength * length (a .0 .conditions))) (run .left) ∙ beyond-kept (a .0) mostCharacters t before (read-back a) (run .enough)
 
     answered-each : EachAnswered t before n after
-    answered-each = record { allowed = a; numbered = numbered-first; reported = report-at; beyond = beyond-at }
+    answered-each =
+        let f = first-number (a .0 .ship) (a .0 .rows) (a .0 .conditions) (2 + length (a .0 .rows)) in
+        record { allowed = a; numbered = numbered-first; to8 = omega (arith, numbered-first); reported = report-at; beyond = beyond-at }
 
     pub line-report : (k : ℕ) → k < length (a .0 .conditions) → Reports (a .0 .ship) (a .0 .rows) (lineNumber (a .0) k) (lineAt (a .0) k) (reportIn k after)
     unfolding BeginA3
@@ -83,7 +85,7 @@ module _ {t before : List ℕ} {n : ℕ} {after : List ℕ} (run : Run t before 
   pub every : (n ≤ 10) × (n ≢ 9) × (RefusedWhole t before n after ⊎ EachAnswered t before n after)
   every = by-whole
       (λ m l h e. let s = whole-sent m l 0 e in (omega (arith, s .0), omega (arith, s .0), inl (refused-whole m l h e)))
-      (λ a. let b = a .0 in let f = first-number (b .ship) (b .rows) (b .conditions) (2 + length (b .rows)) in let q : n ≤ 8 = omega (arith, numbered-first a) in (omega arith, omega arith, inr (answered-each a)))
+      (λ a. let x = answered-each a in (omega (arith, x .to8), omega (arith, x .to8), inr x))
 
   not-both : RefusedWhole t before n after → AllowedWhole mostCharacters t → ⊥
   not-both r a = refused-got (sym (r .refusal) ∙ read-back a)

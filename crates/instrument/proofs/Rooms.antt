@@ -15,9 +15,8 @@ use Rattle.rules.specs.Answer.{reportOf, answers, firstNumber, number, bytesSen
 use Rattle.rules.proofs.walk.Outcome.{bind-got, bind-refused}
 use Rattle.rules.proofs.booklet.Counted.{lines-lead}
 use Rattle.rules.proofs.booklet.Frames.{frames-sound}
-use Rattle.rules.proofs.booklet.Refusals.{readWhole-refusal}
 use Rattle.rules.proofs.booklet.Sent.{Gives}
-use Rattle.rules.proofs.booklet.Room.{room-bounds, room-read, whole-refused, whole-got, without-room, first-number}
+use Rattle.rules.proofs.booklet.Room.{room-bounds, room-read, whole-refused, whole-got, without-room}
 use Rattle.rules.proofs.booklet.WholeText.{countedLines-sound, sound, complete}
 use Rattle.book.specs.Book.{refusal, plainShip, tableOf, Refuses}
 use Rattle.book.specs.declared.Refusal.{Refusal}
@@ -152,23 +151,18 @@ pub sent-each : (b : Booklet) {m : ℕ} {t before after : List ℕ} {n k : ℕ} 
     → Gives m t before (firstNumber (answers b)) (reportLength * length (b .conditions)) (concat (map reportOf (answers b)) ++ drop (reportLength * length (b .conditions)) before) → Gives m t before n (reportLength * k) after
 sent-each b s e g = rw (s .0, s .1, e) g
 
--- Whatever the text and the buffer, the number is 10 at most, and no more bytes are sent than the buffer has.
-within-buffer : (most : ℕ) (t buffer : List ℕ) → (number most t buffer ≤ 10) × (bytesSent most t buffer ≤ length buffer)
+-- Whatever the text and the buffer, no more bytes are sent than the buffer has.
+within-buffer : (most : ℕ) (t buffer : List ℕ) → bytesSent most t buffer ≤ length buffer
 within-buffer most t buffer = go (ltb (length buffer) (room most t)) refl
   where
-    answered : room most t ≤ length buffer → (a : Ans Booklet) → readWhole most t ≡ a → (number most t buffer ≤ 10) × (bytesSent most t buffer ≤ length buffer)
-    answered h (refused n l o) e =
-        let g = whole-refused most t buffer h e in
-        let r = readWhole-refusal most t .holds n l o e in
-        omega (arith, g .numbered, g .long, room-bounds most t)
-    answered h (got b) e =
-        let g = whole-got most t buffer h b e in
-        omega (arith, g .numbered, g .long, room-read most t b e, first-number (b .ship) (b .rows) (b .conditions) (2 + length (b .rows)))
+    answered : room most t ≤ length buffer → (a : Ans Booklet) → readWhole most t ≡ a → bytesSent most t buffer ≤ length buffer
+    answered h (refused n l o) e = omega (arith, whole-refused most t buffer h e .long, room-bounds most t)
+    answered h (got b) e = omega (arith, whole-got most t buffer h b e .long, room-read most t b e)
 
-    go : (c : Bool) → ltb (length buffer) (room most t) ≡ c → (number most t buffer ≤ 10) × (bytesSent most t buffer ≤ length buffer)
-    go true p = let g = without-room most t buffer (ltb-true _ _ p) in omega (arith, g .numbered, g .long)
+    go : (c : Bool) → ltb (length buffer) (room most t) ≡ c → bytesSent most t buffer ≤ length buffer
+    go true p = omega (arith, without-room most t buffer (ltb-true _ _ p) .long)
     go false p = answered (ltb-false _ _ p) (readWhole most t) refl
 
 -- So of a reply of `judge_within`.
-pub reply-within : (limit : ℕ) (t before after : List ℕ) {n k : ℕ} → (n ≡ number (limited limit) t before) × ((k ≡ bytesSent (limited limit) t before) × (after ≡ written (limited limit) t before)) → (n ≤ 10) × (k ≤ length before)
-reply-within limit t before after r = omega (arith, r .0, r .1 .0, within-buffer (limited limit) t before)
+pub reply-within : (limit : ℕ) (t before after : List ℕ) {n k : ℕ} → (n ≡ number (limited limit) t before) × ((k ≡ bytesSent (limited limit) t before) × (after ≡ written (limited limit) t before)) → k ≤ length before
+reply-within limit t before after r = omega (arith, r .1 .0, within-buffer (limited limit) t before)

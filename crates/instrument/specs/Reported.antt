@@ -55,9 +55,10 @@ pub record RefusedWhole (text before : List ℕ) (n : ℕ) (after : List ℕ) : 
   pub reported : reportIn 0 after ≡ report n line 0 noJudgement
   pub beyond : drop reportLength after ≡ drop reportLength before
 
--- The text is allowed as a whole: report k is that of condition k, the number is the first among theirs that is not 0, and every byte beyond the last report is as it was.
+-- The text is allowed as a whole: report k is that of condition k, the number is the first among theirs that is not 0, 8 at most, and every byte beyond the last report is as it was.
 pub record EachAnswered (text before : List ℕ) (n : ℕ) (after : List ℕ) : Type 0 where
   pub allowed : AllowedWhole mostCharacters text
   pub numbered : n ≡ firstNumber (answers (allowed .0))
+  pub to8 : n ≤ 8
   pub reported : (k : ℕ) → k < length (allowed .0 .conditions) → reportIn k after ≡ reportOf (answer (allowed .0) k)
   pub beyond : drop (reportLength * length (allowed .0 .conditions)) after ≡ drop (reportLength * length (allowed .0 .conditions)) before
