@@ -1,5 +1,5 @@
 // Blocks: how a block begins, and the blocks of fixed size. Each answers with its values by name, or with the refusal and its place:
-// 'at each block 2, 4, 3, 5, 6'.
+// 'at each block 2, 4, 3, 5, 6', and at a row 10.
 pub mod entries;
 pub mod row;
 pub mod ship;

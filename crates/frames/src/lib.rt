@@ -229,7 +229,7 @@ fn no_row(r: book::Refusal) -> RowRead
     }
 }
 
-// One where a row is due, with so many rows before it, the last of them with W = last: 2, 4, 3, 6.
+// One where a row is due, with so many rows before it, the last of them with W = last: 2, 4, 3, 6, 10.
 pub fn row_frame(s: &[u8], line: usize, rows: usize, last: u64) -> RowRead
     ensures { λ r. ⌜ r ≡ rowRead (rowAt line rows last (now (s .entry))) ⌝ }
 {

@@ -1,5 +1,5 @@
 -- What is promised of the instrument, to be read without the proofs: each promise is one theorem with a sentence above it, and its proof stands elsewhere.
--- All are stated of `judge`, or of `room` or `judge_within`, through its contract, which it is proved to meet (proofs/judge, room, judge_within). Their words are defined in the rules' specs/: Apart (which texts are allowed as a whole, which condition lines are, and what each says), Booklet and Answer (the order of checks, and what is answered), Report and Columns (a report's 209 characters, and where each number stands among them), Places (where a refusal may stand), Leaves and Loading (sums, masses and KG), Mistyped (typing slips), Cargo and Timber (a C3 made a C5, and the slots of the timber set); and in specs/: Reported (where report k stands, and what is left in the buffer), Faults (1, 2, 4, 5 and 10), Outside (7 and 8) and OneTag (two condition lines that differ in one tag alone).
+-- All but those of texts alone (as `one-booklet`) are stated of `judge`, or of `room` or `judge_within`, through its contract, which it is proved to meet (proofs/judge, room, judge_within), or of what that leaves (`RefusedWhole`, `EachAnswered`). Their words are defined in the rules' specs/: Apart (which texts are allowed as a whole, which condition lines are, and what each says), Booklet and Answer (the order of checks, and what is answered), Report and Columns (a report's 209 characters, and where each number stands among them), Places (where a refusal may stand), Leaves and Loading (sums, masses and KG), Mistyped (typing slips), Cargo and Timber (a C3 made a C5, and the slots of the timber set); and in specs/: Reported (where report k stands, and what is left in the buffer), Faults (1, 2, 4, 5 and 10), Outside (7 and 8) and OneTag (two condition lines that differ in one tag alone).
 -- Reports, conditions and figures are counted from 0, verdicts from 1, lines of a text from 1.
 use mathlib.Core.Path.{_≡_, refl, ap, sym, _∙_}
 use mathlib.Core.Bool.{true}
@@ -382,7 +382,7 @@ first-fault-in-line text text′ before before′ n n′ after after′ run run�
     fault-alike (line text before n after run enough a k h) (line text′ before′ n′ after′ run′ enough′ a′ k′ h′) m o e same (omega arith)
 
 -- ---- texts of one condition, or of none
--- A text of which no line but the last begins with A3, as document 01 has every text that it reads, is answered as document 01 answers it, read or refused, and 209 bytes are room for it: the number and the one report are of that answer, and every byte beyond is as it was.
+-- A text of which no line but the last begins with A3, such as every text of one condition that is read, is answered by the reading of a text of one condition, read or refused, and 209 bytes are room for it: the number and the one report are of that answer, and every byte beyond is as it was.
 pub of-one-condition : (text before : List ℕ) (n : ℕ) (after : List ℕ) → Judges text before n after → reportLength ≤ length before → LastAlone text
     → (n ≡ numberOf (answered text)) × (reportIn 0 after ≡ reportOf (answered text)) × (drop reportLength after ≡ drop reportLength before)
 of-one-condition text before n after run room last = let q = contract text before n after .0 run in ones.sent-last last (record { numbered = q .0; left = q .1; enough = omega (arith, room-last text last) })

@@ -1,4 +1,4 @@
--- A booklet: laws of specs/Booklet and Apart, and of the answer to one (specs/Answer); two booklets that differ in one tag: specs/Tags, Cargo and Timber.
+-- A booklet: laws of specs/Booklet and Apart, and of the answer to one (specs/Answer); a typing slip: specs/Mistyped; two booklets that differ in one tag: specs/Tags, Cargo and Timber.
 pub mod Counted
 pub mod Frames
 pub mod Refusals

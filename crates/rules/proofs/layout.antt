@@ -1,4 +1,4 @@
--- Numbers in bytes, fields, characters and lines, places: laws of specs/Numbers, Text, Blocks, Layout, Parts, Places, Tags, Cargo and Timber, and 01's limits restated.
+-- Numbers in bytes, fields, characters and lines, places: laws of specs/Numbers, Text, Blocks, Layout, Parts, Places, Mistyped, Tags, Cargo and Timber, and 01's limits restated.
 pub mod Numbers
 pub mod Fields
 pub mod Lines

@@ -1,4 +1,4 @@
--- The order of checks: laws of specs/Outcome and Walk, which texts are read, and what a refusal says: specs/Met and Places; two texts that differ in one tag: specs/Tags, Cargo and Timber.
+-- The order of checks: laws of specs/Outcome and Walk, which texts are read, and what a refusal says: specs/Met, Places and Mistyped; two texts that differ in one tag: specs/Tags, Cargo and Timber.
 pub mod Outcome
 pub mod Heads
 pub mod Entries

@@ -153,16 +153,19 @@ pub fn tied(dice: &mut Dice, first: usize, second: usize, kg: i128) -> Vessel {
     vessel
 }
 
+/// Two stations each with equal greatest levers, and the KG.
+pub const TIES: [(usize, usize, i128); 7] = [
+    (3, 5, 5_000),
+    (3, 5, 10_000),
+    (2, 6, 20_000),
+    (5, 7, 12_500),
+    (6, 7, 0),
+    (5, 6, 0),
+    (4, 5, 0),
+];
+
 fn add_ties(cases: &mut Cases) {
-    for (first, second, kg) in [
-        (3, 5, 5_000),
-        (3, 5, 10_000),
-        (2, 6, 20_000),
-        (5, 7, 12_500),
-        (6, 7, 0),
-        (5, 6, 0),
-        (4, 5, 0),
-    ] {
+    for (first, second, kg) in TIES {
         cases.add(
             format!("equal levers at stations {first} and {second}, KG {kg}"),
             move |dice| tied(dice, first, second, kg).text(dice),

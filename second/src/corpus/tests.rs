@@ -4,6 +4,7 @@
 use std::collections::BTreeSet;
 use std::path::PathBuf;
 
+use super::edges::TIES;
 use super::winds::{sail_text, Sailing, DIPS};
 use super::Corpus;
 use crate::criteria::{Judgement, FAIL, NOT_JUDGED, PASS, UNUSED};
@@ -121,17 +122,9 @@ fn criterion_8_is_judged_up_to_its_edges() {
 #[test]
 fn the_first_of_equal_levers_is_taken() {
     for corpus in seeds() {
-        for (first, second, kg) in [
-            (3, 5, 5_000),
-            (3, 5, 10_000),
-            (2, 6, 20_000),
-            (5, 7, 12_500),
-            (6, 7, 0),
-            (5, 6, 0),
-            (4, 5, 0),
-        ] {
+        for (first, second, kg) in TIES {
             let name = format!("equal levers at stations {first} and {second}, KG {kg}");
-            assert_eq!(judged(&corpus, &name).figures[7], 50 * first);
+            assert_eq!(judged(&corpus, &name).figures[7], 50 * first as i128);
         }
     }
 }

@@ -1,9 +1,13 @@
 -- A digit missing in a KN table (request 4), and its edges: P1 with another second row. W lies on the first row, so that each text that is read has P1's report.
 use mathlib.Core.Path.{refl}
+use mathlib.Core.Logic.{inl, inr}
 use mathlib.Core.List.{List, [], _∷_}
 use Prim.Native.String.{String}
 use Prim.Native.Nat.{ℕ}
+use native.Mathlib.Omega.{arith}
+use Rattle.rules.specs.Mistyped.{FarOff}
 use Rattle.rules.specs.Answer.{answered, reportOf}
+use Rattle.rules.proofs.layout.Smooth.{by-cases}
 use Rattle.rules.proofs.bench.Cases.{Case, judges, refuses, All, lines, refusal}
 use Rattle.rules.proofs.bench.Bench.{ship, row1, row2, P1-condition, P1-output}
 
@@ -55,3 +59,13 @@ mistypedRows =
 pub mistyped-hold : All mistypedRows
 unfolding answered reportOf
 mistyped-hold = ((refl, refl), (refl, (refl, (refl, (refl, ((refl, refl), ((refl, refl), (refl, ((refl, refl), ((refl, refl), ((refl, refl), ((refl, refl), ((refl, refl), ((refl, refl), ((refl, refl), tt)))))))))))))))
+
+-- Those that are both read are just not far off, and one more is: by 401 at 5 and at 55 degrees, by 801 at 60.
+pub far-off-from : FarOff 1 592 993 × FarOff 11 3_277 2_876 × FarOff 12 2_990 3_791 × (¬ FarOff 6 2_062 2_462) × (¬ FarOff 12 2_990 3_790)
+far-off-from = (
+  (omega arith, inl (omega arith, inl (omega arith))),
+  (omega arith, inl (omega arith, inr (omega arith))),
+  (omega arith, inr (refl, inl (omega arith))),
+  λ f. by-cases (f .1) (λ g. by-cases (g .1) (λ h. omega arith) (λ h. omega arith)) (λ g. omega (arith, g .0)),
+  λ f. by-cases (f .1) (λ g. omega (arith, g .0)) (λ g. by-cases (g .1) (λ h. omega arith) (λ h. omega arith)),
+)

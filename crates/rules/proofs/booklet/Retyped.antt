@@ -1,6 +1,5 @@
 -- A text that is read, with one KN value of one row typed anew and far off: the whole text is refused with 10 at that row.
 use mathlib.Core.Path.{_≡_, refl, ap, sym, _∙_}
-use mathlib.Core.Logic.{_⊎_, inl, inr}
 use mathlib.Core.Bool.{true, false}
 use mathlib.Core.List.{List, [], _∷_}
 use Prim.Native.Nat.{ℕ, zero, suc, _+_, _≤_, _<_}
@@ -15,11 +14,11 @@ use Rattle.rules.specs.Outcome.{refused, got}
 use Rattle.rules.specs.Met.{behindRows}
 use Rattle.rules.specs.Booklet.{behindShip, bookFrames, readWhole}
 use Rattle.rules.specs.Apart.{linesOf, spellBooklet, LinesWithin}
-use Rattle.rules.specs.Mistyped.{FarApart, knValue, FarOff, absentRow, nthRow, retyped, retypedIn}
+use Rattle.rules.specs.Mistyped.{knValue, FarOff, absentRow, nthRow, retyped, retypedIn}
 use Rattle.rules.proofs.layout.Fields.{both-true, within-set, row-lawful, length-spell}
 use Rattle.rules.proofs.layout.Lines.{length-hex}
 use Rattle.rules.proofs.layout.Rows.{nth-ok, nth-smooth}
-use Rattle.rules.proofs.layout.Smooth.{unless-true, not-both-smooth}
+use Rattle.rules.proofs.layout.Smooth.{unless-true, by-cases, not-both-smooth}
 use Rattle.rules.proofs.walk.Outcome.{bind-got, bind-refused}
 use Rattle.rules.proofs.walk.Heads.{length-alone, Bytes-fixed}
 use Rattle.rules.proofs.walk.Frames.{ship-got}
@@ -109,11 +108,7 @@ behind-retyped (u ∷ vs) cs (suc k) ln n p v R S h m w e s =
 
 -- ---- a whole text
 far-within : {i x y : ℕ} → FarOff i x y → i ≤ 12
-far-within {i} {x} {y} f = go (f .1)
-  where
-    go : ((i ≤ 11) × FarApart 400 x y) ⊎ ((i ≡ 12) × FarApart 800 x y) → i ≤ 12
-    go (inl g) = omega (arith, g .0)
-    go (inr g) = omega (arith, g .0)
+far-within f = by-cases (f .1) (λ g. omega (arith, g .0)) (λ g. omega (arith, g .0))
 
 module _ (most : ℕ) (t : List ℕ) (b : Booklet) (e : readWhole most t ≡ got b) where
   pub retyped-refused : (k i x : ℕ) → k < length (b .rows) → x ≤ 30_000 → FarOff i (knValue (nthRow (b .rows) k .kn) i) x → readWhole most (spellBooklet (retypedIn b k i x)) ≡ refused 10 (2 + k) 0

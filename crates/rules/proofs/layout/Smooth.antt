@@ -1,6 +1,6 @@
 -- Typing slips, station by station: a row is smooth exactly where none of its inner values is bent, and of two smooth rows that differ in one value alone, these differ by at most 400, or at 60 degrees by at most 800.
 use mathlib.Core.Path.{_≡_, refl, ap, sym, _∙_}
-use mathlib.Core.Logic.{_≢_, _⊎_, inl, inr}
+use mathlib.Core.Logic.{_≢_, _⊎_, inl, inr, ⊎-elim}
 use mathlib.Core.Bool.{Bool, true, false, _&&_}
 use mathlib.Core.List.{List, [], _∷_}
 use Prim.Native.Nat.{ℕ, zero, suc, _+_, _-_, _*_, _≤_, _<_}
@@ -22,9 +22,9 @@ both-false : (c d : Bool) → (c && d) ≡ false → (c ≡ false) ⊎ (d ≡ fa
 both-false true d e = inr e
 both-false false d e = inl refl
 
-by-cases : {A B C : Type 0} → A ⊎ B → (A → C) → (B → C) → C
-by-cases (inl a) f g = f a
-by-cases (inr b) f g = g b
+-- The sum first, so that both cases know what they are of.
+pub by-cases : {A B C : Type 0} → A ⊎ B → (A → C) → (B → C) → C
+by-cases s f g = ⊎-elim f g s
 
 -- ---- three values
 -- The middle one against its neighbours, either way.
@@ -56,15 +56,18 @@ near-at (a ∷ x ∷ []) i e h = absurd (omega arith)
 near-at (a ∷ x ∷ b ∷ s) zero e h = near a x b (both-true (unbent a x b) (smooth (x ∷ b ∷ s)) e .0)
 near-at (a ∷ x ∷ b ∷ s) (suc i) e h = near-at (x ∷ b ∷ s) i (both-true (unbent a x b) (smooth (x ∷ b ∷ s)) e .1) (omega arith)
 
-far-at : (kn : List ℕ) → smooth kn ≡ false → (i : ℕ) × (suc (suc i) < length kn) × FarApart 400 (2 * getD kn (suc i) 0) (getD kn i 0 + getD kn (suc (suc i)) 0)
+-- Three values side by side of which the middle one is bent.
+abbrev SomeBent : List ℕ → Type 0
+SomeBent kn = (i : ℕ) × (suc (suc i) < length kn) × FarApart 400 (2 * getD kn (suc i) 0) (getD kn i 0 + getD kn (suc (suc i)) 0)
+
+far-at : (kn : List ℕ) → smooth kn ≡ false → SomeBent kn
 unfolding smooth
 far-at [] e = absurd (let z : _≡_ {A = ℕ} 0 1 = cc in omega arith)
 far-at (a ∷ []) e = absurd (let z : _≡_ {A = ℕ} 0 1 = cc in omega arith)
 far-at (a ∷ x ∷ []) e = absurd (let z : _≡_ {A = ℕ} 0 1 = cc in omega arith)
 far-at (a ∷ x ∷ b ∷ s) e = go (far-at (x ∷ b ∷ s)) (unbent a x b) refl e
   where
-    go : (smooth (x ∷ b ∷ s) ≡ false → (i : ℕ) × (suc (suc i) < length (x ∷ b ∷ s)) × FarApart 400 (2 * getD (x ∷ b ∷ s) (suc i) 0) (getD (x ∷ b ∷ s) i 0 + getD (x ∷ b ∷ s) (suc (suc i)) 0)) → (c : Bool) → unbent a x b ≡ c → (c && smooth (x ∷ b ∷ s)) ≡ false
-        → (i : ℕ) × (suc (suc i) < length (a ∷ x ∷ b ∷ s)) × FarApart 400 (2 * getD (a ∷ x ∷ b ∷ s) (suc i) 0) (getD (a ∷ x ∷ b ∷ s) i 0 + getD (a ∷ x ∷ b ∷ s) (suc (suc i)) 0)
+    go : (smooth (x ∷ b ∷ s) ≡ false → SomeBent (x ∷ b ∷ s)) → (c : Bool) → unbent a x b ≡ c → (c && smooth (x ∷ b ∷ s)) ≡ false → SomeBent (a ∷ x ∷ b ∷ s)
     go H true p e = let y = H e in (suc (y .0), omega (arith, y .1), y .2)
     go H false p e = (0, omega arith, far a x b p)
 
@@ -81,8 +84,7 @@ module _ (kn : List ℕ) where
   near-station e (suc i) a h = rw (before i, behind i) (near-at kn i e (omega arith))
 
   pub never-bent : smooth kn ≡ true → (i : ℕ) → 1 ≤ i → i + 1 < length kn → ¬ Bent kn i
-  never-bent e i a h (inl b) = let n = near-station e i a h in omega arith
-  never-bent e i a h (inr b) = let n = near-station e i a h in omega arith
+  never-bent e i a h b = let n = near-station e i a h in by-cases b (λ g. omega arith) (λ g. omega arith)
 
   pub bent-at : smooth kn ≡ false → (i : ℕ) × (1 ≤ i) × (i + 1 < length kn) × Bent kn i
   bent-at e = let x = far-at kn e in (suc (x .0), omega arith, omega (arith, x .1), go (x .0) (x .2))
@@ -106,23 +108,17 @@ module _ (kn : List ℕ) (i x : ℕ) (n : length kn ≡ 13) (e : smooth kn ≡ t
   inner a b = go (knValue kn (i - 1)) (knValue kn i) (knValue kn (i + 1)) (near-station kn e i a (omega arith)) (rw (anew (omega arith), other (i - 1) (omega arith), other (i + 1) (omega arith)) at (near-station (set kn i x) e′ i a (simp length-set (omega arith))))
     where
       go : (u v w : ℕ) → Near u v w → Near u x w → ¬ FarApart 400 v x
-      go u v w p q (inl f) = omega arith
-      go u v w p q (inr f) = omega arith
+      go u v w p q f = by-cases f (λ g. omega arith) (λ g. omega arith)
 
   -- A neighbour of the one before it, j, in both.
   outer : (j : ℕ) → j + 1 ≡ i → 1 ≤ j → i < length kn → ¬ FarApart 800 (knValue kn i) x
   outer j q a h = go (knValue kn (j - 1)) (knValue kn j) (knValue kn i) (rw q at (near-station kn e j a (omega arith))) (rw (q, anew h, other (j - 1) (omega arith), other j (omega arith)) at (near-station (set kn i x) e′ j a (simp length-set (omega arith))))
     where
       go : (u v w : ℕ) → Near u v w → Near u v x → ¬ FarApart 800 w x
-      go u v w p q (inl f) = omega arith
-      go u v w p q (inr f) = omega arith
+      go u v w p q f = by-cases f (λ g. omega arith) (λ g. omega arith)
 
   pub not-both-smooth : ¬ FarOff i (knValue kn i) x
-  not-both-smooth f = go (f .1)
-    where
-      go : ((i ≤ 11) × FarApart 400 (knValue kn i) x) ⊎ ((i ≡ 12) × FarApart 800 (knValue kn i) x) → ⊥
-      go (inl g) = inner (f .0) (g .0) (g .1)
-      go (inr g) = outer 11 (omega (arith, g .0)) (omega arith) (omega (arith, g .0)) (g .1)
+  not-both-smooth f = by-cases (f .1) (λ g. inner (f .0) (g .0) (g .1)) (λ g. outer 11 (omega (arith, g .0)) (omega arith) (omega (arith, g .0)) (g .1))
 
 -- ---- the rows of a table
 pub no-slip : (rows : List Row) → Rising 0 rows → NoSlips rows → (k i : ℕ) → k < length rows → 1 ≤ i → i ≤ 11 → ¬ Bent (nthRow rows k .kn) i
