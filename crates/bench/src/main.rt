@@ -4,18 +4,10 @@ ghost use lib.ListN.{length};
 use libc::STDOUT_FILENO;
 use numbers::least;
 
-// A number in decimal, in a line of its own.
+// The number, 0 to 10, in decimal and in a line of its own.
 fn print_number(number: u8) -> bool {
-    let line = [
-        48 + number / 100,
-        48 + number / 10 % 10,
-        48 + number % 10,
-        b'\n',
-    ];
+    let line = [48 + number / 10, 48 + number % 10, b'\n'];
     if number < 10 {
-        return io::write_all(STDOUT_FILENO, &line[2..]);
-    }
-    if number < 100 {
         return io::write_all(STDOUT_FILENO, &line[1..]);
     }
     io::write_all(STDOUT_FILENO, &line)

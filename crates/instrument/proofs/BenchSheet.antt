@@ -52,9 +52,9 @@ pub timbers-one : (isOne (readWhole mostCharacters (tender "C1")) ≡ true) × (
 unfolding taken readWhole
 timbers-one = (refl, refl, refl, refl)
 
-pub smooth-one : (isOne (readWhole mostCharacters above400) ≡ true) × (isOne (readWhole mostCharacters below400) ≡ true) × (isOne (readWhole mostCharacters above800) ≡ true) × (isOne (readWhole mostCharacters below800) ≡ true)
+pub mistyped-one : (isOne (readWhole mostCharacters above400) ≡ true) × (isOne (readWhole mostCharacters below400) ≡ true) × (isOne (readWhole mostCharacters above800) ≡ true) × (isOne (readWhole mostCharacters below800) ≡ true)
 unfolding taken readWhole
-smooth-one = (refl, refl, refl, refl)
+mistyped-one = (refl, refl, refl, refl)
 
 -- The first is judged, and so are these.
 pub judged-0 : (numberOf (answered P1) ≡ 0) × (numberOf (answered (tanker "C3")) ≡ 0) × (numberOf (answered (tanker "C5")) ≡ 0)

@@ -93,7 +93,7 @@ of-reading t r e =
     let b : Booklet = record { ship = r .ship; rows = r .rows; conditions = l ∷ [] } in
     let p : spellBooklet b ≡ spellText r = ap (λ ls. text (spellBlock ship (r .ship) ∷ ls)) (rows-frames (r .rows) (r .condition)) in
     let L = lines-sound 1 t (frames r) (texts.lines-of-reading t r e) .1 in (
-      (b, record { hull = w .hull; rising = w .rising; noSlips = w .noSlips; few = w .few; many = w .many; begin = (refl, last-bytes (r .rows) (r .condition) (L .2), tt); some = omega arith; atMost = omega arith; long = omega (arith, ap length p, w .long) }, p ∙ S .1),
+      (b, record { hull = w .hull; rising = w .rising; noSlips = texts.unslipped t r e; few = w .few; many = w .many; begin = (refl, last-bytes (r .rows) (r .condition) (L .2), tt); some = omega arith; atMost = omega arith; long = omega (arith, ap length p, w .long) }, p ∙ S .1),
       (r .condition, w .loaded, refl),
       refl,
     )

@@ -254,7 +254,7 @@ pub one-condition : (l : List ℕ) (c c′ : AllowedLine l) → c .0 ≡ c′ .0
 one-condition = booklets.one-condition
 
 -- ---- typing slips
--- In a text whose conditions are answered no inner value of a row is wrong by more than 400 against the straight line of its neighbours, doubled.
+-- In a text whose conditions are answered no inner value of a row, none at 5 to 55 degrees, is wrong by more than 400 against the straight line of its neighbours, doubled.
 pub typing-slip : {text before : List ℕ} {n : ℕ} {after : List ℕ} (x : EachAnswered text before n after) (k i : ℕ) → k < length (x .allowed .0 .rows) → 1 ≤ i → i ≤ 11 → ¬ Bent (nthRow (x .allowed .0 .rows) k .kn) i
 typing-slip {text} x = let a = x .allowed in booklets.typing-slip mostCharacters text (a .0) (replies.read-back a)
 
@@ -427,11 +427,11 @@ neither-set-covers = (
   sends (coaster "C6") (sheet.timbers-one .3) (sheet.judged-0 .6) (timbers-hold .1 .1 .1 .1 .0),
 )
 
--- A digit missing in P1's second row, 230 for 2,300 at 30 degrees: 10 in line 3. With 2,462 there and with 2,062, which differ by 400, the text is judged, and so it is with 3,790 and 2,990 at 60 degrees, which differ by 800: `not-both-read` says no more than holds.
+-- A digit missing in P1's second row, 230 for 2,300 at 30 degrees: 10 in line 3. With 2,462 there and with 2,062, which differ by 400, the text is judged, and so it is with 3,790 and 2,990 at 60 degrees, which differ by 800: `not-both-read` has the least bounds that hold.
 pub digit-missing : Sends digitMissing 10 (refusal "D100650A00030000") × Sends above400 0 P1-output × Sends below400 0 P1-output × Sends above800 0 P1-output × Sends below800 0 P1-output
 digit-missing =
     let h = mistyped-hold .1 in
-    let one = sheet.smooth-one in (
+    let one = sheet.mistyped-one in (
       sends-refusal digitMissing sheet.mistyped-whole (mistyped-hold .0 .0) (mistyped-hold .0 .1),
       sends above400 (one .0) (sheet.judged-0 .7) (h .0),
       sends below400 (one .1) (sheet.judged-0 .8) (h .1 .0),

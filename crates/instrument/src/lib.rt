@@ -23,7 +23,7 @@ const REPORT: usize = 209;
 // 'The library takes up to 180,000 characters.'
 const MOST_CHARACTERS: usize = 180_000;
 
-// 'On refusals 1 to 8 verdicts are 3 and figures 0', and so on 10.
+// 'On refusals 1 to 8 verdicts are 3 and figures 0', and likewise on 10.
 fn no_judgement() -> Judgement
     ensures { λ r. ⌜ r ≡ judgementOf noJudgement ⌝ }
 {

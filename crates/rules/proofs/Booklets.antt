@@ -211,7 +211,7 @@ four-for-the-whole most t ls C ln o = four-whole most t ls C ln o
 pub five-for-the-whole : (most : ℕ) (t : List ℕ) (l o : ℕ) → (readWhole most t ≡ refused 5 l o) ↔ ((o ≡ 0) × (TwentyFifth most t l ⊎ ((ls : List (List ℕ)) × LinesWithin most t ls × NoCondition ls l)))
 five-for-the-whole most t l o = five-whole most t l o
 
--- Such a text is refused with 10 for the whole exactly where a line is a row with a typing slip, at that line and offset 0: behind the ship and rows as they must be a row in its place, within its limits and its W above the last one's, and one of its inner values, doubled, differs from the sum of its two neighbours by more than 400.
+-- A text of lines within its limit, of which at most 24 begin with A3, is refused with 10 for the whole exactly where a line is a row with a typing slip, at that line and offset 0: behind the ship and rows as they must be a row in its place, within its limits and its W above the last one's, and one of its inner values, doubled, differs from the sum of its two neighbours by more than 400.
 pub ten-for-the-whole : (most : ℕ) (t : List ℕ) (ls : List (List ℕ)) → LinesWithin most t ls → (ln o : ℕ) → (readWhole most t ≡ refused 10 ln o) ↔ ((o ≡ 0) × Mistyped ls ln)
 ten-for-the-whole most t ls C ln o = ten-whole most t ls C ln o
 
@@ -235,7 +235,7 @@ pub lines-before-blocks : (most : ℕ) (t : List ℕ) (n l o : ℕ) → readWhol
 lines-before-blocks most t n l o e one five = lines-of-refused most t n l o e one five
 
 -- ---- typing slips
--- In a row that is read a value that is wrong by more than 400 against the straight line of its neighbours, doubled, cannot stand.
+-- In a row that is read an inner value, one at 5 to 55 degrees, that is wrong by more than 400 against the straight line of its neighbours, doubled, cannot stand.
 pub typing-slip : (most : ℕ) (t : List ℕ) (b : Booklet) → readWhole most t ≡ got b → (k i : ℕ) → k < length (b .rows) → 1 ≤ i → i ≤ 11 → ¬ Bent (nthRow (b .rows) k .kn) i
 typing-slip most t b e = let w = whole.sound most t b e .0 in no-slip (b .rows) (w .rising) (w .noSlips)
 

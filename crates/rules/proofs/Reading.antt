@@ -19,7 +19,7 @@ use Rattle.rules.specs.Mistyped.{Bent, nthRow, Mistyped}
 use Rattle.rules.specs.Places.{LinesFill, SameBefore, lookedAt, LineAt, Placed}
 use Rattle.rules.specs.Met.{Met, Overruns, NoLF, NoLine, FirstNoLine}
 use Rattle.rules.specs.Answer.{judged, answered}
-use Rattle.rules.proofs.walk.WholeText.{sound, lines-of-reading, reading-unique}
+use Rattle.rules.proofs.walk.WholeText.{sound, unslipped, lines-of-reading, reading-unique}
 use Rattle.rules.proofs.walk.Refusals.{number-of-refusal, not-both, unrefused-iff-allowed}
 use Rattle.rules.proofs.layout.Smooth.{no-slip}
 use Rattle.rules.proofs.layout.InsideParent.{reading-fills}
@@ -52,9 +52,9 @@ reading-spells t r e = sound t r e
 pub refusal-number : (t : List ℕ) (n l o : ℕ) → read t ≡ refused n l o → Unread n
 refusal-number t n l o e = number-of-refusal t e
 
--- In a row that is read a value that is wrong by more than 400 against the straight line of its neighbours, doubled, cannot stand.
+-- In a row that is read an inner value, one at 5 to 55 degrees, that is wrong by more than 400 against the straight line of its neighbours, doubled, cannot stand.
 pub typing-slip : (t : List ℕ) (r : Reading) → read t ≡ got r → (k i : ℕ) → k < length (r .rows) → 1 ≤ i → i ≤ 11 → ¬ Bent (nthRow (r .rows) k .kn) i
-typing-slip t r e = let l = sound t r e .0 in no-slip (r .rows) (l .rising) (l .noSlips)
+typing-slip t r e = no-slip (r .rows) (sound t r e .0 .rising) (unslipped t r e)
 
 -- ---- where its blocks stand
 -- In a reading every block lies wholly inside its parent's body, and the blocks of a parent stand end to end and fill it:

@@ -127,12 +127,11 @@ pub record ConditionLimits (c : Condition) : Type 0 where
 pub record Limits (r : Reading) : Type 0 where
   pub hull : ok ship (r .ship) ≡ true
   pub rising : Rising 0 (r .rows)
-  pub noSlips : NoSlips (r .rows)
   pub few : fewestRows ≤ length (r .rows)
   pub many : length (r .rows) ≤ mostRows
   pub loaded : ConditionLimits (r .condition)
   pub long : length (spellText r) ≤ mostCharacters
 
--- A text is allowed when it spells a reading within the limits.
+-- A text is allowed when it spells a reading within the limits, no row with a typing slip.
 abbrev pub Allowed : List ℕ → Type 0
-Allowed t = (r : Reading) × Limits r × (spellText r ≡ t)
+Allowed t = (r : Reading) × Limits r × NoSlips (r .rows) × (spellText r ≡ t)

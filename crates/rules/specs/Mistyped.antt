@@ -36,7 +36,7 @@ absentRow = record { mass = 0; draught = 0; km = 0; kn = [] }
 abbrev pub nthRow : List Row → ℕ → Row
 nthRow rows k = getD rows k absentRow
 
--- A row with another KN value at station i; rows, with that in the place of row k; and a booklet with such rows.
+-- A row with another KN value at station i; and a booklet with that in the place of its row k.
 abbrev pub retyped : ℕ → ℕ → Row → Row
 retyped i x v = record { mass = v .mass; draught = v .draught; km = v .km; kn = set (v .kn) i x }
 

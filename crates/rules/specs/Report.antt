@@ -56,7 +56,7 @@ judgement c = record {
       pos (c .w) ∷ pos (c .kg) ∷ gm c ∷ area1 c ∷ area2 c ∷ area3 c ∷ greatestLever c ∷ pos (angleOfGreatest c) ∷ phi0Figure c ∷ where8 c (pos (phi1 c)) ∷ where8 c (net c) ∷ [];
 }
 
--- 'On refusals 1 to 8 verdicts are 3 and figures 0', and so on 10 (request 4).
+-- 'On refusals 1 to 8 verdicts are 3 and figures 0', and likewise on 10 (request 4).
 abbrev pub noJudgement : Judgement
 noJudgement = record { verdicts = replicate 8 void; figures = replicate 11 (pos 0) }
 

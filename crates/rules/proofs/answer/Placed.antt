@@ -1,6 +1,6 @@
 -- The place of every refusal of a text of one condition lies within the text.
 use mathlib.Core.Path.{_≡_, refl}
-use mathlib.Core.Logic.{_⊎_, inl, inr}
+use mathlib.Core.Logic.{_⊎_, inl, inr, _≢_}
 use mathlib.Core.List.{List, []}
 use Prim.Native.Nat.{ℕ, _+_, _*_, _≤_}
 use lib.ListN.{length}
@@ -28,6 +28,24 @@ place-within t n l o e = placed .holds n l o e
     placed = rw (answered-steps t) (bind-refusal _ _ (read-placed t) (λ r er. weaker (λ n l o x. rw (x .2, x .3) (unweighed (x .0) (x .1))) (judged-refusal r)))
 
 -- ---- read the other way
+-- Only 1 to 8 and 10 have a place.
+pub number-placed : {t : List ℕ} {n l o : ℕ} → Placed t n l o → (1 ≤ n) × (n ≤ 10) × (n ≢ 9)
+number-placed (tooLong h) = omega arith
+number-placed (atLine c x) = omega arith
+number-placed (emptyText e) = omega arith
+number-placed (atByte a b c x h) = omega arith
+number-placed (atRow c x h) = omega arith
+number-placed (unweighed a b) = omega arith
+
+-- 7 and 8 name no line.
+pub no-line-named : {t : List ℕ} {n l o : ℕ} → Placed t n l o → 7 ≤ n → n ≤ 8 → l ≡ 0
+no-line-named (tooLong h) from to = refl
+no-line-named (atLine c x) from to = absurd (omega arith)
+no-line-named (emptyText e) from to = refl
+no-line-named (atByte a b c x h) from to = absurd (omega arith)
+no-line-named (atRow c x h) from to = absurd (omega arith)
+no-line-named (unweighed a b) from to = refl
+
 -- Only 2 to 6 have an offset but 0.
 pub others-at-front : {t : List ℕ} {n l o : ℕ} → Placed t n l o → ((2 ≤ n) × (n ≤ 6) → ⊥) → o ≡ 0
 others-at-front (tooLong h) f = refl

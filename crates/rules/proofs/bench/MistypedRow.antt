@@ -1,9 +1,9 @@
 -- A digit missing in a KN table (request 4), and its edges: P1 with another second row. W lies on the first row, so that each text that is read has P1's report.
 use mathlib.Core.Path.{refl}
-use mathlib.Core.Logic.{inl, inr}
+use mathlib.Core.Logic.{_⊎_, inl, inr}
 use mathlib.Core.List.{List, [], _∷_}
 use Prim.Native.String.{String}
-use Prim.Native.Nat.{ℕ}
+use Prim.Native.Nat.{ℕ, _+_, _≤_}
 use native.Mathlib.Omega.{arith}
 use Rattle.rules.specs.Mistyped.{FarOff}
 use Rattle.rules.specs.Answer.{answered, reportOf}
@@ -60,12 +60,11 @@ pub mistyped-hold : All mistypedRows
 unfolding answered reportOf
 mistyped-hold = ((refl, refl), (refl, (refl, (refl, (refl, ((refl, refl), ((refl, refl), (refl, ((refl, refl), ((refl, refl), ((refl, refl), ((refl, refl), ((refl, refl), ((refl, refl), ((refl, refl), tt)))))))))))))))
 
--- Those that are both read are just not far off, and one more is: by 401 at 5 and at 55 degrees, by 801 at 60.
-pub far-off-from : FarOff 1 592 993 × FarOff 11 3_277 2_876 × FarOff 12 2_990 3_791 × (¬ FarOff 6 2_062 2_462) × (¬ FarOff 12 2_990 3_790)
+-- What is far off, restated: by 401 and more at each of 5 to 55 degrees, by 801 and more at 60, either way. Those that are both read are just not.
+pub far-off-from : ((i x y : ℕ) → 1 ≤ i → i ≤ 11 → (x + 401 ≤ y) ⊎ (y + 401 ≤ x) → FarOff i x y) × ((x y : ℕ) → (x + 801 ≤ y) ⊎ (y + 801 ≤ x) → FarOff 12 x y) × (¬ FarOff 6 2_062 2_462) × (¬ FarOff 12 2_990 3_790)
 far-off-from = (
-  (omega arith, inl (omega arith, inl (omega arith))),
-  (omega arith, inl (omega arith, inr (omega arith))),
-  (omega arith, inr (refl, inl (omega arith))),
+  λ i x y from to f. (from, inl (to, by-cases f (λ h. inl (omega arith)) (λ h. inr (omega arith)))),
+  λ x y f. (omega arith, inr (refl, by-cases f (λ h. inl (omega arith)) (λ h. inr (omega arith)))),
   λ f. by-cases (f .1) (λ g. by-cases (g .1) (λ h. omega arith) (λ h. omega arith)) (λ g. omega (arith, g .0)),
   λ f. by-cases (f .1) (λ g. omega (arith, g .0)) (λ g. by-cases (g .1) (λ h. omega arith) (λ h. omega arith)),
 )

@@ -13,7 +13,7 @@ use Rattle.rules.specs.Outcome.{Unread}
 use Rattle.rules.specs.Walk.{conditionIn}
 use Rattle.rules.specs.Booklet.{counted, countedLines, rowAt, onlyConditions, behindShip, bookFrames, readWhole, conditionAt}
 use Rattle.rules.proofs.walk.Heads.{header-splits}
-use Rattle.rules.proofs.walk.Refusals.{Refusal, given, plain, weaker, bind-refusal, test-cases, test-refusal, NumberFrom, UnreadFrom, AtRow, Between, header-refusal, inside-refusal, row-refusal, shipFrame-refusal, closed-refusal}
+use Rattle.rules.proofs.walk.Refusals.{Refusal, given, plain, weaker, bind-refusal, test-cases, test-refusal, NumberFrom, UnreadFrom, OfRow, Between, header-refusal, inside-refusal, row-refusal, shipFrame-refusal, closed-refusal}
 use Rattle.rules.proofs.walk.BadLine.{lines-bad}
 use Rattle.rules.proofs.booklet.Counted.{countedLines-steps, only-a3, only-other, behind-a3, behind-row}
 use Rattle.rules.proofs.booklet.TwentyFifth.{counted-only}
@@ -47,7 +47,7 @@ countedLines-refusal most t =
     bind-refusal _ _ (weaker (λ n l o x. (omega arith, λ h. x .0)) (counted-refusal ls 1 _)) (λ u eu. given))))
 
 -- ---- the blocks
-pub rowAt-refusal : (ln k p : ℕ) (l : List ℕ) → Refusal (AtRow 2 ln) (rowAt ln k p l)
+pub rowAt-refusal : (ln k p : ℕ) (l : List ℕ) → Refusal (OfRow 2 ln) (rowAt ln k p l)
 unfolding rowAt
 rowAt-refusal ln k p l =
     bind-refusal _ _ (weaker (λ n l o x. omega arith) (header-refusal ln 0 l)) (λ h eh. test-refusal _ _ _ _ _ (omega arith) (test-refusal _ _ _ _ _ (omega arith) (weaker (λ n l o x. omega arith) (row-refusal ln p h))))

@@ -103,7 +103,6 @@ limits-kept r G a good e f l =
     record {
       hull = l .hull;
       rising = l .rising;
-      noSlips = l .noSlips;
       few = l .few;
       many = l .many;
       loaded = record {

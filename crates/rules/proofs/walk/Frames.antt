@@ -200,7 +200,7 @@ readFrames-sound (l ∷ ls) r B e =
     rw (← q) (record { spells = ap₂ _∷_ (f .0) (s .spells); hull = f .1; rising = s .rising; noSlips = s .noSlips; few = omega (arith, s .few); many = omega (arith, s .many); loaded = s .loaded })
 
 -- ---- complete
--- The ship's frame, a row's and the condition's, where they are within their limits.
+-- The ship's frame, a row's and the condition's, where they are as they must be.
 pub ship-got : (ln : ℕ) (v : Ship) → ok ship v ≡ true → shipFrame ln (spellBlock ship v) ≡ got v
 unfolding shipFrame spellBlock
 ship-got ln v e = bind-got _ (frame-got ln (ship .tag) (spellValues (ship .fields) (ship .listed v)) (length-fits ship ship-lawful v e)) ∙ test-got _ _ _ _ refl ∙ fixedIn-got ln ship ship-lawful v e

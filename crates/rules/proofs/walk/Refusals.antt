@@ -70,8 +70,8 @@ At k ln at n l o = NumberFrom k n × (l ≡ ln) × (o ≡ at)
 abbrev pub Between : ℕ → ℕ → ℕ → ℕ → ℕ → ℕ → Type 0
 Between ln at e n l o = NumberFrom 2 n × (l ≡ ln) × (at ≤ o) × (o < e)
 
-abbrev pub AtRow : ℕ → ℕ → ℕ → ℕ → ℕ → Type 0
-AtRow k ln n l o = UnreadFrom k n × (l ≡ ln) × (o ≡ 0)
+abbrev pub OfRow : ℕ → ℕ → ℕ → ℕ → ℕ → Type 0
+OfRow k ln n l o = UnreadFrom k n × (l ≡ ln) × (o ≡ 0)
 
 abbrev pub InFrame : ℕ → ℕ → ℕ → ℕ → ℕ → Type 0
 InFrame ln e n l o = UnreadAt 2 n o × (l ≡ ln) × (o < e)
@@ -220,11 +220,11 @@ module _ (ln : ℕ) where
       go false true = given
       go false false = plain (omega arith)
 
-  pub row-refusal : (p : ℕ) (h : Head) → Refusal (AtRow 3 ln) (rowIn ln p h)
+  pub row-refusal : (p : ℕ) (h : Head) → Refusal (OfRow 3 ln) (rowIn ln p h)
   unfolding rowIn
   row-refusal p h = bind-refusal _ _ (weaker (λ n l o x. omega arith) (fixedIn-refusal row h)) (λ v ev. test-refusal _ _ _ _ _ (omega arith) (test-refusal _ _ _ _ _ (omega arith) given))
 
-  pub found-row-refusal : (k p : ℕ) (h : Head) → Refusal (AtRow 3 ln) (found ln k p h aRow)
+  pub found-row-refusal : (k p : ℕ) (h : Head) → Refusal (OfRow 3 ln) (found ln k p h aRow)
   unfolding found
   found-row-refusal k p h = test-refusal _ _ _ _ _ (omega arith) (bind-refusal _ _ (row-refusal p h) (λ v ev. given))
 

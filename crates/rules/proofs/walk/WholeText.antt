@@ -8,7 +8,7 @@ use lib.ListN.{length}
 use lib.Dec.{leb}
 use borrow.Author.Tests.{leb-true, le-leb}
 use Rattle.rules.specs.Text.{text, Lines}
-use Rattle.rules.specs.Layout.{Reading, frames, spellText, mostCharacters, Limits, Allowed}
+use Rattle.rules.specs.Layout.{Reading, NoSlips, frames, spellText, mostCharacters, Limits, Allowed}
 use Rattle.rules.specs.Outcome.{got, test, _>>=_, _>>_}
 use Rattle.rules.specs.Walk.{linesFrom, readFrames, read}
 use Rattle.rules.proofs.walk.Outcome.{bind-inv, test-inv, bind-got, test-got}
@@ -33,7 +33,14 @@ sound t r e =
     let L = lines-sound 1 t (b .0) (b .1) in
     let F = readFrames-sound (b .0) r (L .1) (b .2) in
     let p : text (frames r) ≡ t = ap text (F .spells) ∙ L .0 in
-    (record { hull = F .hull; rising = F .rising; noSlips = F .noSlips; few = F .few; many = F .many; loaded = F .loaded; long = omega (arith, ap length p, leb-true (length t) mostCharacters (a .0)) }, p)
+    (record { hull = F .hull; rising = F .rising; few = F .few; many = F .many; loaded = F .loaded; long = omega (arith, ap length p, leb-true (length t) mostCharacters (a .0)) }, p)
+
+-- No row of it has a typing slip.
+pub unslipped : (t : List ℕ) (r : Reading) → read t ≡ got r → NoSlips (r .rows)
+unslipped t r e =
+    let a = test-inv _ _ _ _ _ (sym (read-steps t) ∙ e) in
+    let b = bind-inv _ _ (a .1) in
+    readFrames-sound (b .0) r (lines-sound 1 t (b .0) (b .1) .1) (b .2) .noSlips
 
 -- Its lines are the frames of what is read.
 pub lines-of-reading : (t : List ℕ) (r : Reading) → read t ≡ got r → linesFrom 1 t ≡ got (frames r)
@@ -42,19 +49,19 @@ lines-of-reading t r e =
     let b = bind-inv _ _ (a .1) in
     b .1 ∙ ap got (sym (readFrames-sound (b .0) r (lines-sound 1 t (b .0) (b .1) .1) (b .2) .spells))
 
--- What is within the limits is read back from its spelling.
-pub complete : (r : Reading) → Limits r → read (spellText r) ≡ got r
+-- What is within the limits, no row with a typing slip, is read back from its spelling.
+pub complete : (r : Reading) → Limits r → NoSlips (r .rows) → read (spellText r) ≡ got r
 unfolding spellText
-complete r l =
-    let F : Framed r (frames r) = record { spells = refl; hull = l .hull; rising = l .rising; noSlips = l .noSlips; few = l .few; many = l .many; loaded = l .loaded } in
+complete r l n =
+    let F : Framed r (frames r) = record { spells = refl; hull = l .hull; rising = l .rising; noSlips = n; few = l .few; many = l .many; loaded = l .loaded } in
     read-lines (frames r) (Lines-frames r F) (l .long) ∙ readFrames-got r F
 
 -- Read exactly when allowed.
 pub read-allowed : (t : List ℕ) → ((r : Reading) × (read t ≡ got r)) ↔ Allowed t
-read-allowed t = (λ x. let s = sound t (x .0) (x .1) in (x .0, s .0, s .1), λ a. (a .0, rw (← (a .2)) (complete (a .0) (a .1))))
+read-allowed t = (λ x. let s = sound t (x .0) (x .1) in (x .0, s .0, unslipped t (x .0) (x .1), s .1), λ a. (a .0, rw (← (a .3)) (complete (a .0) (a .1) (a .2))))
 
 pub reading-unique : (t : List ℕ) (a b : Allowed t) → a .0 ≡ b .0
 reading-unique t a b =
-    let p : read t ≡ got (a .0) = rw (← (a .2)) (complete (a .0) (a .1)) in
-    let q : read t ≡ got (b .0) = rw (← (b .2)) (complete (b .0) (b .1)) in
+    let p : read t ≡ got (a .0) = rw (← (a .3)) (complete (a .0) (a .1) (a .2)) in
+    let q : read t ≡ got (b .0) = rw (← (b .3)) (complete (b .0) (b .1) (b .2)) in
     cc
