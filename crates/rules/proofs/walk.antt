@@ -10,6 +10,7 @@ pub mod Refusals
 pub mod Fuel
 pub mod BlockExits
 pub mod FrameExits
+pub mod FrameByFrame
 pub mod Overrun
 pub mod OnlyOverrun
 pub mod TypingSlips

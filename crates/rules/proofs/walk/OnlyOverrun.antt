@@ -12,17 +12,16 @@ use Rattle.rules.specs.Text.{text, Lines}
 use Rattle.rules.specs.Blocks.{block, ok, spellBlock, Ship, ship, Row, conditionTag, Weather, okWeather, spellWeather, Load, Values, entry, groupTag}
 use Rattle.rules.specs.Layout.{Entries, end, leaf, group, Condition, spell, spellCondition, leaves, depth, some, Good, fewestRows, mostDepth, mostEntries, mostBytes, mostCharacters, ConditionLimits}
 use Rattle.rules.specs.Outcome.{Ans, refused, got}
-use Rattle.rules.specs.Walk.{Head, header, Block, one, nest, Walk, step, walk, entries, loadAt, inside, conditionIn, shipFrame, Frame, aRow, aCondition, Found, tableRow, theCondition, found, frameAt, closed, after, tail, readFrames, read}
-use Rattle.rules.specs.Met.{Passed, Meets, behind, nestedIn, Led, behindRows, lead, Met, shipsFrame, frame, frameBehind, weatherBlock, entryBlock, Overruns}
-use Rattle.rules.specs.Loading.{lastMass}
+use Rattle.rules.specs.Walk.{Head, header, Block, one, nest, Walk, step, walk, entries, loadAt, inside, conditionIn, shipFrame, Frame, aRow, aCondition, found, frameAt, closed, readFrames, read}
+use Rattle.rules.specs.Met.{Passed, Meets, behind, nestedIn, Led, lead, Met, shipsFrame, frame, frameBehind, weatherBlock, entryBlock, Overruns}
 use Rattle.rules.proofs.layout.Parts.{full-length}
 use Rattle.rules.proofs.walk.Heads.{length-alone, header-sound}
 use Rattle.rules.proofs.walk.Entries.{Sound, BlockSpelled, block-sound, walk-sound, full-spell}
 use Rattle.rules.proofs.walk.Conditions.{weather-sound}
-use Rattle.rules.proofs.walk.Frames.{code, frame-sound, frameOf-sound, FrameSpelled, frameAt-sound, ship-sound}
-use Rattle.rules.proofs.walk.Led.{last-snoc, lead-snoc, led-none, led-snoc}
+use Rattle.rules.proofs.walk.Frames.{code, frame-sound, frameOf-sound}
 use Rattle.rules.proofs.walk.WholeText.{read-lines}
 use Rattle.rules.proofs.walk.Refusals.{Refusal, given, plain, weaker, bind-refusal, test-refusal, test-cases, At, header-refusal, block-refusal, weather-refusal, fixedIn-refusal, frameOf-refusal, found-row-refusal}
+use Rattle.rules.proofs.walk.FrameByFrame.{frames-each}
 use Rattle.rules.proofs.walk.Overrun.{none-pass, frames-overrun}
 
 -- Of a refusal with 2, P holds of the line and the offset.
@@ -152,31 +151,20 @@ module _ (s : Ship) (vs : List Row) (L : Led s vs) where
       let q : l′ ≡ 3 + length vs = omega arith in
       record { left = l; met = rw (q, x .2) (frameBehind s vs c l ls L f C); overruns = (full-length l (B .0), x .3) }) (header-refusal (2 + length vs + 1) 0 l)) (λ h eh. plain (λ e. absurd (omega arith)))
 
--- The frames left, behind the ship and some rows, the last with W = p.
-tail-over : (ls : List (List ℕ)) (s : Ship) (vs : List Row) (ln k p : ℕ) → Lines ls → Led s vs → p ≡ lastMass vs → ln ≡ 2 + length vs → k ≡ length vs → Refusal (Two (MetOver (lead s vs ls))) (tail ls ln k p)
-unfolding tail after Lines
-tail-over [] s vs ln k p B L w a b = plain (λ e. absurd (omega arith))
-tail-over (l ∷ ls) s vs ln k p B L w a b =
-    rw (a, b) (bind-refusal _ _ (frame-over s vs L ls l p (full-length l (B .0)) (B .1)) (λ f ef. go (λ vs ln k p. tail-over ls s vs ln k p (B .2)) f (frameAt-sound (2 + length vs) (length vs) p l f (B .1) ef)))
-  where
-    go : ((vs : List Row) (ln k p : ℕ) → Led s vs → p ≡ lastMass vs → ln ≡ 2 + length vs → k ≡ length vs → Refusal (Two (MetOver (lead s vs ls))) (tail ls ln k p))
-        → (f : Found) → FrameSpelled (length vs) p l f → Refusal (Two (MetOver (lead s vs (l ∷ ls)))) (after (tail ls) ls (2 + length vs) (length vs) f)
-    go H (tableRow v) T =
-        let M = length-append vs (v ∷ []) in
-        let e : lead s (vs ++ (v ∷ [])) ls ≡ lead s vs (l ∷ ls) = lead-snoc s vs v ls ∙ ap (λ x. lead s vs (x ∷ ls)) (T .0) in
-        bind-refusal _ _ (rw e at (H (vs ++ (v ∷ [])) (2 + length vs + 1) (length vs + 1) (v .mass) (led-snoc s vs v p L w (T .1) (T .2)) (sym (last-snoc vs v)) (omega arith) (omega arith))) (λ x ex. given)
-    go H (theCondition c) T = bind-refusal _ _ (rw (T .0) at (closed-over s vs L c (T .2) (T .1) ls (B .2))) (λ u eu. given)
+-- ---- all frames
+ship-over : (l : List ℕ) (later : List (List ℕ)) → 0 < length l → Refusal (Two (MetOver (l ∷ later))) (shipFrame 1 l)
+unfolding shipFrame
+ship-over l later z =
+    bind-refusal _ _ (weaker (λ a l′ o x e. record { left = l; met = rw (x .1, x .2) (shipsFrame l later); overruns = (z, x .3) }) (header-refusal 1 0 l)) (λ h eh.
+    test-refusal _ _ _ _ _ (λ e. absurd (omega arith)) (past-head (fixedIn-refusal 1 ship h)))
 
 frames-over : (ls : List (List ℕ)) → Lines ls → Refusal (Two (MetOver ls)) (readFrames ls)
-unfolding readFrames shipFrame Lines behindRows lastMass
-frames-over [] B = plain (λ e. absurd (omega arith))
-frames-over (l ∷ ls) B =
-    bind-refusal _ _
-    (bind-refusal _ _ (weaker (λ a l′ o x e. record { left = l; met = rw (x .1, x .2) (shipsFrame l ls); overruns = (full-length l (B .0), x .3) }) (header-refusal 1 0 l)) (λ h eh.
-    test-refusal _ _ _ _ _ (λ e. absurd (omega arith)) (past-head (fixedIn-refusal 1 ship h))))
-    (λ v ev.
-    let S = ship-sound 1 l v (B .1) ev in
-    bind-refusal _ _ (rw (S .0) at (tail-over ls v [] 2 0 0 (B .2) (led-none v (S .1)) refl refl refl)) (λ x ex. given))
+frames-over = frames-each (record {
+  ended = λ ls l e. absurd (omega arith);
+  ships = ship-over;
+  among = λ s vs L l later p z B w. frame-over s vs L later l p z B;
+  behind = closed-over;
+})
 
 -- ---- a whole text
 pub two-frames : (ls : List (List ℕ)) → Lines ls → (ln o : ℕ) → (readFrames ls ≡ refused 2 ln o) ↔ ((left : List ℕ) × Met ls ln o left × Overruns left)

@@ -2,28 +2,28 @@
 use mathlib.Core.Path.{_≡_, refl, ap, sym, _∙_}
 use mathlib.Core.Logic.{_↔_}
 use mathlib.Core.Bool.{true, false}
-use mathlib.Core.List.{List, [], _∷_, _++_}
+use mathlib.Core.List.{List, _∷_}
 use Prim.Native.Nat.{ℕ, _+_, _≤_, _<_}
 use native.Mathlib.Omega.{arith}
-use lib.ListN.{length, length-append}
+use lib.ListN.{length}
 use borrow.Author.Tests.{ltb-true}
 use Rattle.rules.specs.Numbers.{Bytes}
 use Rattle.rules.specs.Text.{text, Lines}
 use Rattle.rules.specs.Blocks.{block, spellValues, ok, spellBlock, Ship, Row, row, smooth}
 use Rattle.rules.specs.Layout.{mostRows, mostCharacters}
 use Rattle.rules.specs.Outcome.{refused, got}
-use Rattle.rules.specs.Walk.{Head, header, rowIn, Frame, aRow, aCondition, Found, tableRow, theCondition, found, frameAt, after, tail, readFrames, read}
-use Rattle.rules.specs.Met.{Led, behindRows, lead}
+use Rattle.rules.specs.Walk.{Head, header, rowIn, Frame, aRow, aCondition, found, frameAt, tail, readFrames, read}
+use Rattle.rules.specs.Met.{Led, lead}
 use Rattle.rules.specs.Loading.{lastMass}
 use Rattle.rules.specs.Mistyped.{Bent, Mistyped, mistyped}
 use Rattle.rules.proofs.layout.Fields.{row-lawful}
 use Rattle.rules.proofs.layout.Rows.{kn-long}
 use Rattle.rules.proofs.layout.Smooth.{bent-at, bent-not-smooth}
 use Rattle.rules.proofs.walk.Outcome.{bind-refused}
-use Rattle.rules.proofs.walk.Frames.{code, fixedIn-sound, rowIn-slip, frameOf-sound, FrameSpelled, frameAt-sound, ship-sound, row-frame}
-use Rattle.rules.proofs.walk.Led.{last-snoc, lead-snoc, led-none, led-snoc}
+use Rattle.rules.proofs.walk.Frames.{code, fixedIn-sound, rowIn-slip, frameOf-sound, row-frame}
 use Rattle.rules.proofs.walk.WholeText.{read-lines}
-use Rattle.rules.proofs.walk.Refusals.{Refusal, given, plain, weaker, bind-refusal, test-cases, test-refusal, header-refusal, fixedIn-refusal, frameOf-refusal, condition-refusal, shipFrame-refusal, closed-refusal}
+use Rattle.rules.proofs.walk.Refusals.{Refusal, given, weaker, bind-refusal, test-cases, test-refusal, header-refusal, fixedIn-refusal, frameOf-refusal, condition-refusal, shipFrame-refusal, closed-refusal}
+use Rattle.rules.proofs.walk.FrameByFrame.{frames-each}
 use Rattle.rules.proofs.walk.Overrun.{led-last}
 
 -- ---- a row
@@ -57,28 +57,13 @@ module _ (s : Ship) (vs : List Row) (L : Led s vs) (later : List (List ℕ)) (l 
       go h eh aRow c = test-cases _ _ _ _ _ (λ d e. absurd (omega arith)) (λ d. bind-refusal _ _ (row-ten h eh c (ltb-true _ _ d)) (λ v ev. given))
       go h eh aCondition c = test-refusal _ _ _ _ _ (λ e. absurd (omega arith)) (bind-refusal _ _ (weaker (λ n l o x e. absurd (omega arith)) (condition-refusal (2 + length vs) h)) (λ d ed. given))
 
--- ---- the frames left, behind the ship and some rows, the last with W = p
-tail-ten : (ls : List (List ℕ)) (s : Ship) (vs : List Row) (ln k p : ℕ) → Lines ls → Led s vs → p ≡ lastMass vs → ln ≡ 2 + length vs → k ≡ length vs → Refusal (Ten (lead s vs ls)) (tail ls ln k p)
-unfolding tail after Lines
-tail-ten [] s vs ln k p B L w a b = plain (λ e. absurd (omega arith))
-tail-ten (l ∷ ls) s vs ln k p B L w a b =
-    rw (a, b) (bind-refusal _ _ (frame-ten s vs L ls l p (B .1) w) (λ f ef. go (λ vs ln k p. tail-ten ls s vs ln k p (B .2)) f (frameAt-sound (2 + length vs) (length vs) p l f (B .1) ef)))
-  where
-    go : ((vs : List Row) (ln k p : ℕ) → Led s vs → p ≡ lastMass vs → ln ≡ 2 + length vs → k ≡ length vs → Refusal (Ten (lead s vs ls)) (tail ls ln k p))
-        → (f : Found) → FrameSpelled (length vs) p l f → Refusal (Ten (lead s vs (l ∷ ls))) (after (tail ls) ls (2 + length vs) (length vs) f)
-    go H (tableRow v) T =
-        let M = length-append vs (v ∷ []) in
-        let e : lead s (vs ++ (v ∷ [])) ls ≡ lead s vs (l ∷ ls) = lead-snoc s vs v ls ∙ ap (λ x. lead s vs (x ∷ ls)) (T .0) in
-        bind-refusal _ _ (rw e at (H (vs ++ (v ∷ [])) (2 + length vs + 1) (length vs + 1) (v .mass) (led-snoc s vs v p L w (T .1) (T .2)) (sym (last-snoc vs v)) (omega arith) (omega arith))) (λ x ex. given)
-    go H (theCondition c) T = bind-refusal _ _ (weaker (λ n l o x e. absurd (omega arith)) (closed-refusal (2 + length vs + 1) ls)) (λ u eu. given)
-
 frames-ten : (ls : List (List ℕ)) → Lines ls → Refusal (Ten ls) (readFrames ls)
-unfolding readFrames Lines behindRows lastMass
-frames-ten [] B = plain (λ e. absurd (omega arith))
-frames-ten (l ∷ ls) B =
-    bind-refusal _ _ (weaker (λ n l o x e. absurd (omega arith)) (shipFrame-refusal 1 l)) (λ v ev.
-    let S = ship-sound 1 l v (B .1) ev in
-    bind-refusal _ _ (rw (S .0) at (tail-ten ls v [] 2 0 0 (B .2) (led-none v (S .1)) refl refl refl)) (λ x ex. given))
+frames-ten = frames-each (record {
+  ended = λ ls l e. absurd (omega arith);
+  ships = λ l later z. weaker (λ n l o x e. absurd (omega arith)) (shipFrame-refusal 1 l);
+  among = λ s vs L l later p z B w. frame-ten s vs L later l p B w;
+  behind = λ s vs L c f C ls B. weaker (λ n l o x e. absurd (omega arith)) (closed-refusal (2 + length vs + 1) ls);
+})
 
 -- ---- a whole text
 mistyped-refused : {ls : List (List ℕ)} {ln : ℕ} → Mistyped ls ln → readFrames ls ≡ refused 10 ln 0

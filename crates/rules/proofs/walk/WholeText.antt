@@ -24,30 +24,30 @@ read-steps t = refl
 pub read-lines : (ls : List (List ℕ)) → Lines ls → length (text ls) ≤ mostCharacters → read (text ls) ≡ readFrames ls
 read-lines ls B l = read-steps (text ls) ∙ test-got _ _ _ _ (le-leb _ _ l) ∙ bind-got _ (lines-got ls 1 B)
 
+-- What is read, its steps undone: the text is short enough, it has lines, and these are the frames of what is read.
+steps-undone : (t : List ℕ) (r : Reading) → read t ≡ got r → (length t ≤ mostCharacters) × (ls : List (List ℕ)) × (linesFrom 1 t ≡ got ls) × (text ls ≡ t) × Framed r ls
+steps-undone t r e =
+    let a = test-inv _ _ _ _ _ (sym (read-steps t) ∙ e) in
+    let b = bind-inv _ _ (a .1) in
+    let L = lines-sound 1 t (b .0) (b .1) in
+    (leb-true (length t) mostCharacters (a .0), b .0, b .1, L .0, readFrames-sound (b .0) r (L .1) (b .2))
+
 -- What is read spells the text, within the limits.
 pub sound : (t : List ℕ) (r : Reading) → read t ≡ got r → Limits r × (spellText r ≡ t)
 unfolding spellText
 sound t r e =
-    let a = test-inv _ _ _ _ _ (sym (read-steps t) ∙ e) in
-    let b = bind-inv _ _ (a .1) in
-    let L = lines-sound 1 t (b .0) (b .1) in
-    let F = readFrames-sound (b .0) r (L .1) (b .2) in
-    let p : text (frames r) ≡ t = ap text (F .spells) ∙ L .0 in
-    (record { hull = F .hull; rising = F .rising; few = F .few; many = F .many; loaded = F .loaded; long = omega (arith, ap length p, leb-true (length t) mostCharacters (a .0)) }, p)
+    let w = steps-undone t r e in
+    let F = w .4 in
+    let p : text (frames r) ≡ t = ap text (F .spells) ∙ w .3 in
+    (record { hull = F .hull; rising = F .rising; few = F .few; many = F .many; loaded = F .loaded; long = omega (arith, ap length p, w .0) }, p)
 
 -- No row of it has a typing slip.
 pub unslipped : (t : List ℕ) (r : Reading) → read t ≡ got r → NoSlips (r .rows)
-unslipped t r e =
-    let a = test-inv _ _ _ _ _ (sym (read-steps t) ∙ e) in
-    let b = bind-inv _ _ (a .1) in
-    readFrames-sound (b .0) r (lines-sound 1 t (b .0) (b .1) .1) (b .2) .noSlips
+unslipped t r e = steps-undone t r e .4 .noSlips
 
 -- Its lines are the frames of what is read.
 pub lines-of-reading : (t : List ℕ) (r : Reading) → read t ≡ got r → linesFrom 1 t ≡ got (frames r)
-lines-of-reading t r e =
-    let a = test-inv _ _ _ _ _ (sym (read-steps t) ∙ e) in
-    let b = bind-inv _ _ (a .1) in
-    b .1 ∙ ap got (sym (readFrames-sound (b .0) r (lines-sound 1 t (b .0) (b .1) .1) (b .2) .spells))
+lines-of-reading t r e = let w = steps-undone t r e in w .2 ∙ ap got (sym (w .4 .spells))
 
 -- What is within the limits, no row with a typing slip, is read back from its spelling.
 pub complete : (r : Reading) → Limits r → NoSlips (r .rows) → read (spellText r) ≡ got r
