@@ -5,7 +5,7 @@ use Prim.Native.Nat.{ℕ, _-_}
 use lib.ListN.{length, replicate, take}
 use Rattle.rules.specs.Blocks as rules
 use Rattle.rules.specs.Layout.{Entries}
-use Rattle.rules.specs.Loading.{flat, total, mass, moment, freeSurface}
+use Rattle.rules.specs.Loading.{tenths, flat, total, mass, moment, freeSurface}
 use Rattle.rules.specs.Curve as curve
 use Rattle.rules.specs.Report as report
 use Rattle.rules.specs.Outcome.{Ans, refused}
@@ -69,7 +69,7 @@ unfoldable pub sumsOf : Entries → Sums
 sumsOf F = record { count = length (flat F); mass = total mass (flat F); moment = total moment (flat F); free = total freeSurface (flat F) }
 
 abbrev pub loadedOf : Loaded → curve.Loaded
-loadedOf c = record { ship = shipOf (c .ship); weather = weatherOf (c .weather); w = c .w; kg = c .kg; draught = c .draught; km = c .km; kn = c .kn }
+loadedOf c = record { unit = tenths; ship = shipOf (c .ship); weather = weatherOf (c .weather); w = c .w; kg = c .kg; draught = c .draught; km = c .km; kn = c .kn }
 
 -- A judgement as plain data: each verdict by its number.
 abbrev pub judgementOf : report.Judgement → Judgement

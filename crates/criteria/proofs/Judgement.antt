@@ -4,6 +4,7 @@ use mathlib.Core.Bool.{Bool, true, false}
 use mathlib.Core.List.{List, [], _∷_}
 use Prim.Native.Nat.{ℕ, _*_, _^_, _≤_, _<_}
 use native.Mathlib.Omega.{arith}
+use native.Mathlib.Nat.{mul-pos}
 use native.Mathlib.Decide.{decLe}
 use lib.Dec.{leb}
 use lib.ListN.{getD}
@@ -42,12 +43,12 @@ module _ (c : Loaded) where
   figures-are = refl
 
   -- 'If E < 300: fail, figure 0': the figure alone decides, as every set asks for some lever.
-  pub lever-decides : leZ (pos (set c .lever)) (greatestLever c) ≡ passes4 c
-  lever-decides = elim (decLe (set c .from) (E c)) [
+  pub lever-decides : 0 < c .unit → leZ (pos (c .unit * set c .lever)) (greatestLever c) ≡ passes4 c
+  lever-decides some = elim (decLe (set c .from) (E c)) [
     | yes h ↦ sym (lever-asked c h)
     | no h ↦
         let l : E c < set c .from = omega arith in
-        ap (leZ (pos (set c .lever))) (greatest-none c l) ∙ le-false (pos (set c .lever)) (pos 0) (omega (arith, lever-some (c .weather .set))) ∙ sym (lever-short c l)
+        ap (leZ (pos (c .unit * set c .lever))) (greatest-none c l) ∙ le-false (pos (c .unit * set c .lever)) (pos 0) (omega (arith, mul-pos some (lever-some (c .weather .set)))) ∙ sym (lever-short c l)
   ]
 
   -- 8, 'with its order of sentences'.

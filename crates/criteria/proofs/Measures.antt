@@ -41,7 +41,7 @@ module _ (c : Loaded) where
       long : (E c ≤ 300 → ⊥) → upTo (y c) (min 400 (E c)) -ℤ upTo (y c) (min 300 (E c)) ≡ area (y c) (pos 300) (pos (min 400 (E c)))
       long h = let a : min 300 (E c) ≡ 300 = omega arith in rw a (sym (leeward (y c) 300 (min 400 (E c)) (omega arith)))
 
-  pub area2-within : Fair c → natAbs (area3 c -ℤ area1 c) ≤ 2 * 10 ^ 15
+  pub area2-within : Fair c → natAbs (area3 c -ℤ area1 c) ≤ 2 * 10 ^ 16
   unfolding area1 area3
   area2-within fair =
       omega (arith, abs-minus (upTo (y c) (min 400 (E c))) (upTo (y c) (min 300 (E c))), upTo-within c fair (min 400 (E c)) (omega arith), upTo-within c fair (min 300 (E c)) (omega arith))

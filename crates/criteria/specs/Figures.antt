@@ -1,8 +1,9 @@
 -- What the code answers on the way to the judgement, by the rules.
 use mathlib.Core.Bool.{Bool, cond}
-use Prim.Native.Nat.{ℕ}
+use Prim.Native.Nat.{ℕ, _*_}
 use lib.IntN.{pos}
 use lib.Signed.{leZ}
+use Rattle.rules.specs.Loading.{tenths}
 use Rattle.rules.specs.Curve.{Loaded}
 use Rattle.rules.specs.Criteria as rules
 use Rattle.rules.specs.Criteria.{area1, area2, area3, greatestLever, angleOfGreatest, gm}
@@ -13,15 +14,15 @@ use Rattle.criteria.specs.declared.righting.Righting.{Righting}
 use Rattle.criteria.specs.declared.sets.Criteria.{Criteria}
 use Rattle.criteria.specs.declared.verdicts.Eighth.{Eighth}
 
--- A set of criteria as plain data.
+-- A set of criteria as plain data, its limits of areas, levers and GM with KG in tenths: 'every .. limit .. tenfold' (request 5).
 abbrev pub plainCriteria : rules.Criteria → Criteria
 plainCriteria s = record {
-  area1 = pos (s .area1);
-  area2 = pos (s .area2);
-  area3 = pos (s .area3);
-  lever = pos (s .lever);
+  area1 = pos (tenths * s .area1);
+  area2 = pos (tenths * s .area2);
+  area3 = pos (tenths * s .area3);
+  lever = pos (tenths * s .lever);
   angle = s .angle;
-  gm = pos (s .gm);
+  gm = pos (tenths * s .gm);
   heel = s .heel;
   from = s .from;
   deck = s .deck;

@@ -8,7 +8,7 @@ ghost use Rattle.gust.specs.Gusts.{Curve, Areas};
 ghost use Rattle.criteria.specs.Figures.{rightingOf};
 use book::Loaded;
 
-// Areas and the greatest lever in y units, the angle of the greatest in tenths of a degree, GM in mm.
+// Areas and the greatest lever in y units, the angle of the greatest in tenths of a degree, GM in tenths of a millimetre.
 pub struct Righting {
     pub area1: i64,
     pub area2: i64,
@@ -40,12 +40,12 @@ fn greatest_lever(c: Loaded, from: usize, angle: usize, y: &[i64; 601]) -> i64
     y[at]
 }
 
-// 6: KM - KG.
+// 6: KM - KG, KM in millimetres.
 fn gm(c: Loaded) -> i64
     requires { ⌜ Fair (loadedOf c) ⌝ }
     ensures { λ r. ⌜ r ≡ gmOf (loadedOf c) ⌝ }
 {
-    c.km as i64 - c.kg as i64
+    (10 * c.km) as i64 - c.kg as i64
 }
 
 // The area from 30° on is what is left of the one to 40°: no area is worked out again.

@@ -6,7 +6,7 @@ ghost use Rattle.book.specs.Book.{setOf};
 ghost use Rattle.criteria.specs.Figures.{plainCriteria};
 use book::Set;
 
-// The limits of 1 to 7 (areas and the lever in y units, angles in tenths of a degree, CODE_GM in mm), from which angle 4 looks,
+// The limits of 1 to 7 (areas and the lever in y units, angles in tenths of a degree, GM in tenths of a millimetre), from which angle 4 looks,
 // whether the deck edge counts in 7, and which of the eight slots are used.
 pub struct Criteria {
     pub area1: i64,
@@ -23,30 +23,30 @@ pub struct Criteria {
 
 impl Criteria {
     // The Code's: 0.055, 0.03 and 0.09 m·rad; 0.20 m, from 30° on; 25°; 150 mm; 16°.
-    pub const CODE_AREA1: i64 = 315_126_800_000;
+    pub const CODE_AREA1: i64 = 3_151_268_000_000;
 
-    pub const CODE_AREA2: i64 = 171_887_400_000;
+    pub const CODE_AREA2: i64 = 1_718_874_000_000;
 
-    pub const CODE_AREA3: i64 = 515_662_100_000;
+    pub const CODE_AREA3: i64 = 5_156_621_000_000;
 
-    pub const CODE_LEVER: i64 = 1_000_000_000;
+    pub const CODE_LEVER: i64 = 10_000_000_000;
 
     pub const CODE_FROM: usize = 300;
 
     pub const CODE_ANGLE: usize = 250;
 
-    pub const CODE_GM: i64 = 150;
+    pub const CODE_GM: i64 = 1500;
 
     pub const CODE_HEEL: usize = 160;
 
     // Timber's: 0.08 m·rad; 0.25 m, from 0 on; 100 mm; 16°.
-    pub const TIMBER_AREA3: i64 = 458_366_300_000;
+    pub const TIMBER_AREA3: i64 = 4_583_663_000_000;
 
-    pub const TIMBER_LEVER: i64 = 1_250_000_000;
+    pub const TIMBER_LEVER: i64 = 12_500_000_000;
 
     pub const TIMBER_FROM: usize = 0;
 
-    pub const TIMBER_GM: i64 = 100;
+    pub const TIMBER_GM: i64 = 1000;
 
     pub const TIMBER_HEEL: usize = 160;
 

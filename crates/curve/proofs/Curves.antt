@@ -43,38 +43,38 @@ unfolding firstIn
 firstIn-same p q t e same = first-same p q (suc e - t) t (λ k l h. same k (omega arith))
 
 -- ---- 'y(-t) = -y(t)', at 0 too, where the first KN is 0
-at-zero : (kn : List ℕ) (kg : ℕ) → getD kn 0 0 ≡ 0 → lever kn kg 0 ≡ pos 0
+at-zero : (unit : ℕ) (kn : List ℕ) (kg : ℕ) → getD kn 0 0 ≡ 0 → lever unit kn kg 0 ≡ pos 0
 unfolding lever
-at-zero kn kg upright =
-    let a = 100000 * (getD kn 0 0 * 50 + getD kn 1 0 * 0) in
-    eq! (subℕ a (kg * 0)) (pos 0) (omega (arith, sub≡ a (kg * 0)))
+at-zero unit kn kg upright =
+    let a = unit * 100000 * (0 * 50 + getD kn 1 0 * 0) in
+    rw upright (eq! (subℕ a (kg * 0)) (pos 0) (omega (arith, sub≡ a (kg * 0))))
 
-pub lever-odd : (kn : List ℕ) (kg : ℕ) → getD kn 0 0 ≡ 0 → Odd (leverZ kn kg)
+pub lever-odd : (unit : ℕ) (kn : List ℕ) (kg : ℕ) → getD kn 0 0 ≡ 0 → Odd (leverZ unit kn kg)
 unfolding leverZ
-lever-odd kn kg upright zero = at-zero kn kg upright ∙ ap negℤ (sym (at-zero kn kg upright))
-lever-odd kn kg upright (suc t) = refl
+lever-odd unit kn kg upright zero = at-zero unit kn kg upright ∙ ap negℤ (sym (at-zero unit kn kg upright))
+lever-odd unit kn kg upright (suc t) = refl
 
 -- ---- the array in place of the curve
-module _ (kn : List ℕ) (kg : ℕ) where
-  module _ (ys : List ℤ) (is : Holds (lever kn kg) ys) where
-    pub held-is : (t : ℕ) → t ≤ 600 → held ys (pos t) ≡ leverZ kn kg (pos t)
+module _ (unit : ℕ) (kn : List ℕ) (kg : ℕ) where
+  module _ (ys : List ℤ) (is : Holds (lever unit kn kg) ys) where
+    pub held-is : (t : ℕ) → t ≤ 600 → held ys (pos t) ≡ leverZ unit kn kg (pos t)
     unfolding held leverZ
     held-is t h = is .at t h
 
-    pub peak-held : (t n : ℕ) → t + n ≤ 600 → peak (λ k. held ys (pos k)) t n ≡ peak (λ k. leverZ kn kg (pos k)) t n
-    peak-held t n h = peak-same (λ k. held ys (pos k)) (λ k. leverZ kn kg (pos k)) t n (λ k l. held-is k (omega arith))
+    pub peak-held : (t n : ℕ) → t + n ≤ 600 → peak (λ k. held ys (pos k)) t n ≡ peak (λ k. leverZ unit kn kg (pos k)) t n
+    peak-held t n h = peak-same (λ k. held ys (pos k)) (λ k. leverZ unit kn kg (pos k)) t n (λ k l. held-is k (omega arith))
 
-    pub reaches-held : (level : ℤ) (t e : ℕ) → e ≤ 600 → reaches (held ys) level t e ≡ reaches (leverZ kn kg) level t e
+    pub reaches-held : (level : ℤ) (t e : ℕ) → e ≤ 600 → reaches (held ys) level t e ≡ reaches (leverZ unit kn kg) level t e
     unfolding reaches
-    reaches-held level t e h = firstIn-same (λ k. leZ level (held ys (pos k))) (λ k. leZ level (leverZ kn kg (pos k))) t e (λ k l. ap (leZ level) (held-is k (omega arith)))
+    reaches-held level t e h = firstIn-same (λ k. leZ level (held ys (pos k))) (λ k. leZ level (leverZ unit kn kg (pos k))) t e (λ k l. ap (leZ level) (held-is k (omega arith)))
 
-    pub stays-held : (level : ℤ) (t e : ℕ) → e ≤ 600 → stays (held ys) level t e ≡ stays (leverZ kn kg) level t e
+    pub stays-held : (level : ℤ) (t e : ℕ) → e ≤ 600 → stays (held ys) level t e ≡ stays (leverZ unit kn kg) level t e
     unfolding stays
     stays-held level t e h =
-        ap (λ (n : ℕ). n - 1) (firstIn-same (λ k. ltZ (held ys (pos k)) level) (λ k. ltZ (leverZ kn kg (pos k)) level) t e (λ k l. ap (λ (z : ℤ). ltZ z level) (held-is k (omega arith))))
+        ap (λ (n : ℕ). n - 1) (firstIn-same (λ k. ltZ (held ys (pos k)) level) (λ k. ltZ (leverZ unit kn kg (pos k)) level) t e (λ k l. ap (λ (z : ℤ). ltZ z level) (held-is k (omega arith))))
 
-    pub areas-held : {zs : List ℤ} → Holds (upTo (held ys)) zs → Holds (upTo (leverZ kn kg)) zs
-    areas-held h = record { long = h .long; at = λ n l. h .at n l ∙ upTo-same (held ys) (leverZ kn kg) n (λ t m. held-is t (omega arith)) }
+    pub areas-held : {zs : List ℤ} → Holds (upTo (held ys)) zs → Holds (upTo (leverZ unit kn kg)) zs
+    areas-held h = record { long = h .long; at = λ n l. h .at n l ∙ upTo-same (held ys) (leverZ unit kn kg) n (λ t m. held-is t (omega arith)) }
 
 -- ---- what a fair ship's curve rests on
 module _ (c : Loaded) (fair : Fair c) where

@@ -6,6 +6,7 @@ use Prim.Native.Nat.{ℕ, zero, suc, _-_, _≤_, _<_}
 use native.Mathlib.Omega.{arith}
 use lib.ListN.{length, getD, take, drop}
 use lib.Seq.{drop-cons, split-at}
+use Rattle.rules.specs.Loading.{tenths}
 use Rattle.rules.specs.Rounding.{down, Point, point, span, gap, line}
 use Rattle.rules.specs.Layout.{Rising}
 use Rattle.rules.specs.Blocks as rules
@@ -100,9 +101,10 @@ module _ (t : Table) (whole : Whole t) (w i : ℕ) (around : Around t w i) where
   -- 'd, KM and each KN.'
   pub loaded-is : (ship : Ship) (weather : Weather) (kg d m : ℕ) (kn : List ℕ) → d ≡ between (rowAt t (i - 1)) (rowAt t i) (λ r. r .draught) w → m ≡ between (rowAt t (i - 1)) (rowAt t i) (λ r. r .km) w
       → kn ≡ knBetween (rowAt t (i - 1)) (rowAt t i) w
-      → loadedOf (record { ship = ship; weather = weather; w = w; kg = kg; draught = d; km = m; kn = kn }) ≡ curve.loadedAt (shipOf ship) (rowsOf t) (weatherOf weather) w kg
+      → loadedOf (record { ship = ship; weather = weather; w = w; kg = kg; draught = d; km = m; kn = kn }) ≡ curve.loadedAt tenths (shipOf ship) (rowsOf t) (weatherOf weather) w kg
   unfolding curve.loadedAt
   loaded-is ship weather kg d m kn ed em ek = λ j. record {
+    unit = tenths;
     ship = shipOf ship;
     weather = weatherOf weather;
     w = w;

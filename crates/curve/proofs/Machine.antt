@@ -31,7 +31,7 @@ at-or-above (negsuc a) (pos b) e = sym e
 at-or-above (negsuc a) (negsuc b) e = le-ltb b a (leb-true a b e)
 
 -- The difference of two unsigned numbers, taken once, signed.
-module _ (a b : ℕ) (h : a ≤ 10 ^ 10) (k : b ≤ 10 ^ 10) where
+module _ (a b : ℕ) (h : a ≤ 10 ^ 11) (k : b ≤ 10 ^ 11) where
   signed : toZ w64 a -ℤ toZ w64 b ≡ subℕ a b
   signed = rw (toZ-pos w64 {n = a} (omega arith), toZ-pos w64 {n = b} (omega arith)) (sub-is a b)
 

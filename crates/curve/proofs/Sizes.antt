@@ -10,6 +10,7 @@ use lib.ListN.{length, getD}
 use lib.IntN.{ℤ, pos, negsuc, subℕ, natAbs, _+ℤ_, _*ℤ_}
 use lib.Signed.{mag}
 use mir.Facts.{and-yes}
+use Rattle.rules.specs.Loading.{tenths}
 use Rattle.rules.specs.Curve.{sines, lever}
 use Rattle.rules.proofs.rounding.Signed.{up, dn, up-add, dn-add, up-mull, dn-mull, up-sub, dn-sub, mag-le}
 use Rattle.curve.specs.Levers.{Sized, Within, mostG, mostY, g, leversOf, straight, Holds, held, upTo}
@@ -62,11 +63,11 @@ sine-small : (i : ℕ) → getD sines i 0 < 100000
 sine-small = entry-below 100000 sines (omega arith) tt
 
 -- The two products of a lever at a station.
-pub over-small : {kn : ℕ} → kn < 2 ^ 16 → 100000 * kn ≤ 10 ^ 10
+pub over-small : {kn : ℕ} → kn < 2 ^ 16 → 1_000_000 * kn ≤ 10 ^ 11
 over-small h = omega arith
 
-pub under-small : {kg : ℕ} (i : ℕ) → kg < 2 ^ 16 → kg * getD sines i 0 ≤ 10 ^ 10
-under-small {kg} i h = let k : kg ≤ 65536 = omega arith in let s : getD sines i 0 ≤ 100000 = omega (arith, sine-small i) in omega (arith, mul-le-mul k s)
+pub under-small : {kg : ℕ} (i : ℕ) → kg ≤ 600_000 → kg * getD sines i 0 ≤ 10 ^ 11
+under-small {kg} i h = let s : getD sines i 0 ≤ 100000 = omega (arith, sine-small i) in omega (arith, mul-le-mul h s)
 
 -- ---- what the arrays hold
 within-by : (n : ℕ) (zs : List ℤ) → ((i : ℕ) → i < length zs → natAbs (getD zs i (pos 0)) ≤ n) → Within n zs
@@ -78,19 +79,19 @@ module _ (kn : List ℕ) (kg : ℕ) (sizes : Sized kn kg) where
   g-within : (i : ℕ) → natAbs (g kn kg i) ≤ mostG
   unfolding g
   g-within i =
-      omega (arith, abs-difference (100000 * getD kn i 0) (kg * getD sines i 0), over-small (sizes .forms i), under-small i (sizes .centre))
+      omega (arith, abs-difference (1_000_000 * getD kn i 0) (kg * getD sines i 0), over-small (sizes .forms i), under-small i (sizes .centre))
 
   pub levers-within : Within mostG (leversOf kn kg)
   levers-within = within-by mostG (leversOf kn kg) (λ i l. rw (at-station (pos 0) (g kn kg) i l) (g-within i))
 
   -- y is the straight line between two of them.
-  y-within : (t : ℕ) → t ≤ 600 → natAbs (lever kn kg t) ≤ mostY
+  y-within : (t : ℕ) → t ≤ 600 → natAbs (lever tenths kn kg t) ≤ mostY
   unfolding straight
   y-within t h =
       rw (← straight-lever kn kg t h)
       (straight-within (getD (leversOf kn kg) (t / 50) (pos 0)) (getD (leversOf kn kg) (t / 50 + 1) (pos 0)) (t % 50) mostG (omega arith) (levers-within (t / 50)) (levers-within (t / 50 + 1)))
 
-  pub curve-within : (ys : List ℤ) → Holds (lever kn kg) ys → Within mostY ys
+  pub curve-within : (ys : List ℤ) → Holds (lever tenths kn kg) ys → Within mostY ys
   curve-within ys is = within-by mostY ys (λ i l. let h : i ≤ 600 = omega (arith, is .long) in rw (is .at i h) (y-within i h))
 
 -- An area is that of n strips.

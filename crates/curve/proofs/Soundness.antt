@@ -10,8 +10,8 @@ use lib.ListN.{length, length-append, length-map, length-replicate}
 use lib.Seq.{take-at}
 use Rattle.rules.specs.Layout.{Entries, end, leaf, group, Good, leaves, Reading, Limits}
 use Rattle.rules.specs.Outcome.{got, test}
-use Rattle.rules.specs.Loading.{Entry, flat, total, mass, moment, freeSurface, inTable, displacement, correctedKG, greatestKG, entriesOf, weighed}
-use Rattle.rules.specs.Curve.{loadedAt, loaded}
+use Rattle.rules.specs.Loading.{tenths, Entry, flat, total, mass, moment, freeSurface, inTable, displacement, correctedKG, greatestKG, entriesOf, weighed, weighedIn}
+use Rattle.rules.specs.Curve.{loadedAt, loaded, loadedIn}
 use Rattle.rules.specs.Blocks as rules
 use Rattle.rules.proofs.walk.Outcome.{test-inv}
 use Rattle.rules.proofs.loading.EntryLimits.{Each, masses, moments, surfaces}
@@ -69,10 +69,10 @@ module _ (r : Reading) where
   reading-weighs = rw (table-rows (r .rows)) (weighs r)
 
   pub reading-in-table : weighed r ≡ got tt → inTable (rowsOf (tableOf (r .rows))) (displacement (entriesOf r)) ≡ true
-  unfolding weighed
+  unfolding weighedIn
   reading-in-table e =
-      rw (table-rows (r .rows)) (test-inv (inTable (r .rows) (displacement (entriesOf r))) 7 0 0 (test (leb (correctedKG (entriesOf r)) greatestKG) 8 0 0) e .0)
+      rw (table-rows (r .rows)) (test-inv (inTable (r .rows) (displacement (entriesOf r))) 7 0 0 (test (leb (correctedKG (entriesOf r)) (tenths * greatestKG)) 8 0 0) e .0)
 
-  pub reading-loaded : loadedAt (r .ship) (rowsOf (tableOf (r .rows))) (r .condition .weather) (displacement (entriesOf r)) (correctedKG (entriesOf r)) ≡ loaded r
-  unfolding loaded
+  pub reading-loaded : loadedAt tenths (r .ship) (rowsOf (tableOf (r .rows))) (r .condition .weather) (displacement (entriesOf r)) (correctedKG (entriesOf r)) ≡ loaded r
+  unfolding loadedIn
   reading-loaded = rw (table-rows (r .rows))

@@ -7,6 +7,7 @@ use native.Mathlib.Omega.{arith}
 use native.Mathlib.Nat.{eq-or-lt-of-le}
 use lib.ListN.{getD}
 use lib.IntN.{ℤ, pos, _+ℤ_, _*ℤ_, zero-*ℤ, +ℤ-idl, +ℤ-idr}
+use Rattle.rules.specs.Loading.{tenths}
 use Rattle.rules.specs.Curve.{lever}
 use Rattle.rules.proofs.loading.Levers.{lever-straight}
 use Rattle.curve.specs.Levers.{g, leversOf, straight, Holds}
@@ -23,12 +24,12 @@ module _ (kn : List ℕ) (kg : ℕ) (gs : List ℤ) (at : (i : ℕ) → i < 13 �
   second : (t : ℕ) → t ≤ 600 → pos (t % 50) *ℤ getD gs (t / 50 + 1) (pos 0) ≡ pos (t % 50) *ℤ g kn kg (t / 50 + 1)
   second t h = ⊎-elim (λ e. rw e (zero-*ℤ (getD gs 13 (pos 0)) ∙ sym (zero-*ℤ (g kn kg 13)))) (λ l. rw (at (t / 50 + 1) (omega arith))) (eq-or-lt-of-le h)
 
-  of-levers : (t : ℕ) → t ≤ 600 → straight gs t ≡ lever kn kg t
+  of-levers : (t : ℕ) → t ≤ 600 → straight gs t ≡ lever tenths kn kg t
   unfolding straight g
-  of-levers t h = rw (at (t / 50) (omega arith), second t h) (sym (lever-straight kn kg t))
+  of-levers t h = rw (at (t / 50) (omega arith), second t h) (sym (lever-straight tenths kn kg t))
 
-pub straight-lever : (kn : List ℕ) (kg t : ℕ) → t ≤ 600 → straight (leversOf kn kg) t ≡ lever kn kg t
+pub straight-lever : (kn : List ℕ) (kg t : ℕ) → t ≤ 600 → straight (leversOf kn kg) t ≡ lever tenths kn kg t
 straight-lever kn kg = of-levers kn kg (leversOf kn kg) (at-station (pos 0) (g kn kg))
 
-pub holds-lever : (kn : List ℕ) (kg : ℕ) {gs ys : List ℤ} → gs ≡ leversOf kn kg → Holds (straight gs) ys → Holds (lever kn kg) ys
+pub holds-lever : (kn : List ℕ) (kg : ℕ) {gs ys : List ℤ} → gs ≡ leversOf kn kg → Holds (straight gs) ys → Holds (lever tenths kn kg) ys
 holds-lever kn kg e h = record { long = h .long; at = λ t l. h .at t l ∙ ap (λ (zs : List ℤ). straight zs t) e ∙ straight-lever kn kg t l }

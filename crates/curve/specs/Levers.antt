@@ -6,10 +6,10 @@ use lib.ListN.{length, getD}
 use lib.IntN.{ℤ, pos, negsuc, negℤ, subℕ, natAbs, _+ℤ_, _*ℤ_}
 use Rattle.rules.specs.Curve.{stations, sines, area}
 
--- Sizes that the machine's arithmetic rests on: KN and KG within two bytes.
+-- Sizes that the machine's arithmetic rests on: KN within two bytes, KG what 8 allows.
 pub record Sized (kn : List ℕ) (kg : ℕ) : Type 0 where
   pub forms : (i : ℕ) → getD kn i 0 < 2 ^ 16
-  pub centre : kg < 2 ^ 16
+  pub centre : kg ≤ 600_000
 
 -- No entry is further than n from zero.
 abbrev pub Within : ℕ → List ℤ → Type 0
@@ -17,14 +17,14 @@ Within n zs = (i : ℕ) → natAbs (getD zs i (pos 0)) ≤ n
 
 -- So far from zero no lever at a station is, and no y.
 abbrev pub mostG : ℕ
-mostG = 2 * 10 ^ 10
+mostG = 2 * 10 ^ 11
 
 abbrev pub mostY : ℕ
-mostY = 10 ^ 12
+mostY = 10 ^ 13
 
 -- 'g at a station = 100,000 x KN - KG x sine.'
 unfoldable pub g : List ℕ → ℕ → ℕ → ℤ
-g kn kg i = subℕ (100000 * getD kn i 0) (kg * getD sines i 0)
+g kn kg i = subℕ (1_000_000 * getD kn i 0) (kg * getD sines i 0)
 
 abbrev pub leversOf : List ℕ → ℕ → List ℤ
 leversOf kn kg = map (g kn kg) stations

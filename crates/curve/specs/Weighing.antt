@@ -6,7 +6,7 @@ use lib.ListN.{length}
 use Rattle.rules.specs.Blocks.{Row}
 use Rattle.rules.specs.Layout.{Rising, Reading, fewestRows, mostRows}
 use Rattle.rules.specs.Outcome.{Ans, refused, got}
-use Rattle.rules.specs.Loading.{kgBy, weighedAt, weighed, displacement, correctedKG, entriesOf}
+use Rattle.rules.specs.Loading.{tenths, kgBy, weighedAt, weighed, displacement, correctedKG, entriesOf}
 use Rattle.book.specs.Book.{rowsOf, refusal, noRefusal, Refuses}
 use Rattle.book.specs.declared.Table.{Table}
 use Rattle.book.specs.declared.Sums.{Sums}
@@ -32,7 +32,7 @@ pub record Sound (s : Sums) (t : Table) : Type 0 where
 
 -- The corrected KG of the sums, by the rules.
 abbrev pub kgOf : Sums → ℕ
-kgOf s = kgBy (s .moment + s .free) (s .mass)
+kgOf s = kgBy tenths (s .moment + s .free) (s .mass)
 
 -- What the code answers of the sums, from what the rules answer: W and KG, or the refusal.
 abbrev pub weight : ℕ → ℕ → Ans (Unit {0}) → Weighed
@@ -40,7 +40,7 @@ weight w kg (refused n l o) = Refused (refusal n l o)
 weight w kg (got tt) = Fine w kg
 
 unfoldable pub weighedOf : List Row → Sums → Weighed
-weighedOf rows s = weight (s .mass) (kgOf s) (weighedAt rows (s .mass) (kgOf s))
+weighedOf rows s = weight (s .mass) (kgOf s) (weighedAt tenths rows (s .mass) (kgOf s))
 
 -- Its refusal, or none.
 abbrev pub weighedFault : Weighed → Refusal

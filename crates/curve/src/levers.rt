@@ -3,6 +3,7 @@ ghost use mathlib.Core.Path.{_≡_};
 ghost use Prim.Native.Nat.{_-_, _*_, _≤_, _<_, _^_};
 ghost use lib.ListN.{getD};
 ghost use lib.IntN.{pos, subℕ, natAbs, _+ℤ_, _*ℤ_};
+ghost use Rattle.rules.specs.Loading.{tenths};
 ghost use Rattle.rules.specs.Curve.{sines, lever as leverOf};
 ghost use Rattle.curve.specs.Levers.{Sized, Within, mostG, mostY, leversOf, straight, Holds, held, upTo};
 
@@ -25,10 +26,10 @@ const SINES: [u64; 13] = [
 
 // g at a station.
 fn lever(kn: u64, kg: u64, i: usize) -> i64
-    requires { ⌜ (kn < 2 ^ 16) × (kg < 2 ^ 16) × (i < 13) ⌝ }
-    ensures { λ r. ⌜ r ≡ subℕ (100000 * kn) (kg * getD sines i 0) ⌝ }
+    requires { ⌜ (kn < 2 ^ 16) × (kg ≤ 600_000) × (i < 13) ⌝ }
+    ensures { λ r. ⌜ r ≡ subℕ (1_000_000 * kn) (kg * getD sines i 0) ⌝ }
 {
-    let over = 100000 * kn;
+    let over = 1_000_000 * kn;
     let under = kg * SINES[i];
     over as i64 - under as i64
 }
@@ -75,7 +76,7 @@ fn tenths(g: [i64; 13]) -> [i64; 601]
 // The curve of the loaded ship: y at each tenth.
 pub fn curve(kn: [u64; 13], kg: u64) -> [i64; 601]
     requires { ⌜ Sized kn kg ⌝ }
-    ensures { λ r. ⌜ Holds (leverOf kn kg) r ⌝ }
+    ensures { λ r. ⌜ Holds (leverOf tenths kn kg) r ⌝ }
 {
     let g = levers(kn, kg);
     tenths(g)

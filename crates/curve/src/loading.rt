@@ -8,8 +8,8 @@ use book::Refusal;
 use book::Sums;
 use book::Table;
 
-// Above this KG no ship is judged.
-const GREATEST_KG: u64 = 60_000;
+// Above this KG, in tenths of a millimetre, no ship is judged.
+const GREATEST_KG: u64 = 600_000;
 
 // The ship's weight and its centre, or why it is not judged.
 pub enum Weighed {
@@ -56,10 +56,10 @@ fn corrected_kg(sums: Sums) -> u64
     requires { ⌜ (0 < sums .mass) × InMachine sums ⌝ }
     ensures { λ r. ⌜ r ≡ kgOf sums ⌝ }
 {
-    rounding::ceil(sums.moment + sums.free, sums.mass)
+    rounding::ceil(10 * (sums.moment + sums.free), sums.mass)
 }
 
-// 7, then 8: 'corrected KG above 60,000'.
+// 7, then 8: '8 now above 600,000'.
 pub fn weigh(sums: Sums, table: Table) -> Weighed
     requires { ⌜ Sound sums table ⌝ }
     ensures { λ r. ⌜ r ≡ weighedOf (rowsOf table) sums ⌝ }

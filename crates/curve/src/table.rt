@@ -2,7 +2,7 @@
 ghost use mathlib.Core.Path.{_≡_};
 ghost use mathlib.Core.Bool.{true};
 ghost use Rattle.rules.specs.Rounding.{down, point, line};
-ghost use Rattle.rules.specs.Loading.{inTable};
+ghost use Rattle.rules.specs.Loading.{tenths, inTable};
 ghost use Rattle.rules.specs.Curve.{loadedAt};
 ghost use Rattle.rounding.specs.Points.{Between};
 ghost use Rattle.book.specs.Book.{shipOf, rowsOf, weatherOf, loadedOf};
@@ -65,7 +65,7 @@ fn kn_between(a: Row, b: Row, w: u64) -> [u64; 13]
 // The loaded ship at W and KG.
 pub fn loaded(ship: Ship, weather: Weather, table: Table, w: u64, kg: u64) -> Loaded
     requires { ⌜ Whole table × (inTable (rowsOf table) w ≡ true) ⌝ }
-    ensures { λ r. ⌜ loadedOf r ≡ loadedAt (shipOf ship) (rowsOf table) (weatherOf weather) w kg ⌝ }
+    ensures { λ r. ⌜ loadedOf r ≡ loadedAt tenths (shipOf ship) (rowsOf table) (weatherOf weather) w kg ⌝ }
 {
     let upper = around(table, w);
     let lower = upper - 1;

@@ -24,7 +24,7 @@ use Rattle.earned.proofs.Finer.{heel-is, heel-to, start-before, end-bey
 -- ---- 'Start = phi0 if y(phi0) = lw1, else phi0 - 1; less phi1', as bounds
 start-to : (c : Loaded) → up (start c) + phi1 c ≤ phi0 c + dn (start c)
 unfolding start
-start-to c = go (leZ (y c (pos (phi0 c))) (units (lw1 c)))
+start-to c = go (leZ (y c (pos (phi0 c))) (units (c .unit) (lw1 c)))
   where
     go : (b : Bool) → let z : ℤ = elim b [ true ↦ pos (phi0 c) -ℤ pos (phi1 c) | false ↦ pos (phi0 c) -ℤ pos 1 -ℤ pos (phi1 c) ] in up z + phi1 c ≤ phi0 c + dn z
     go true = omega (arith, diff≡ (pos (phi0 c)) (pos (phi1 c)))
@@ -33,7 +33,7 @@ start-to c = go (leZ (y c (pos (phi0 c))) (units (lw1 c)))
 -- ---- the pieces
 module _ (q : ℕ) (some : 0 < q) (c : Loaded) (upright : y c (pos 0) ≡ pos 0) where
   abbrev level : ℕ
-  level = 5_000_000 * lw2 c
+  level = c .unit * 5_000_000 * lw2 c
 
   pub straight : Between q (over (yBy q c) (q * level)) (over (y c) level)
   straight = between-over q level (yBy q c) (y c) (between q some c upright)
@@ -67,11 +67,11 @@ module _ (q : ℕ) (some : 0 < q) (c : Loaded) (upright : y c (pos 0) ≡ pos 0)
   ends-low x x′ h k = omega (arith, diff≡ x (pos (q * level)), diff≡ x′ (pos (q * level)), add≡ (x -ℤ pos (q * level)) (x′ -ℤ pos (q * level)))
 
   -- Where the curve stays at or above lw2, the sum is not below zero.
-  after : (j : ℕ) → ((k : ℕ) → k ≤ j → Le (unitsBy q (lw2 c)) (yBy q c (pos (q * e c + k)))) → Le (pos 0) (sumZ (gusts q c) j (pos (q * e c)))
+  after : (j : ℕ) → ((k : ℕ) → k ≤ j → Le (unitsBy q (c .unit) (lw2 c)) (yBy q c (pos (q * e c + k)))) → Le (pos 0) (sumZ (gusts q c) j (pos (q * e c)))
   after j up-there = not-negative (gusts q c) j (pos (q * e c)) (λ k l. ends (yBy q c (pos (q * e c + k))) (yBy q c (pos (q * e c + k + 1))) (up-there k (omega arith)) (next k l))
     where
-      next : (k : ℕ) → k < j → Le (unitsBy q (lw2 c)) (yBy q c (pos (q * e c + k + 1)))
-      next k l = let z : q * e c + suc k ≡ q * e c + k + 1 = omega arith in subst (λ (x : ℕ). Le (unitsBy q (lw2 c)) (yBy q c (pos x))) z (up-there (suc k) l)
+      next : (k : ℕ) → k < j → Le (unitsBy q (c .unit) (lw2 c)) (yBy q c (pos (q * e c + k + 1)))
+      next k l = let z : q * e c + suc k ≡ q * e c + k + 1 = omega arith in subst (λ (x : ℕ). Le (unitsBy q (c .unit) (lw2 c)) (yBy q c (pos x))) z (up-there (suc k) l)
 
   -- So the piece after e never counts against the ship.
   pub end-piece : noGust c ≡ false → (j : ℕ) × (eBy q c ≡ q * e c + j) × Le (pos 0) (sumZ (gusts q c) j (pos (q * e c)))
@@ -79,16 +79,16 @@ module _ (q : ℕ) (some : 0 < q) (c : Loaded) (upright : y c (pos 0) ≡ pos 0)
 
   -- Where y lies nowhere below -lw2, from the start to phi0 it lies nowhere above lw2.
   module _ (gusty : noGust c ≡ false) (high : NowhereBelow c) where
-    calm : (x : ℤ) → Le (pos q *ℤ start c) x → Lt x (pos (phi0By q c)) → Le (yBy q c x) (unitsBy q (lw2 c))
+    calm : (x : ℤ) → Le (pos q *ℤ start c) x → Lt x (pos (phi0By q c)) → Le (yBy q c x) (unitsBy q (c .unit) (lw2 c))
     unfolding yBy leverZ
-    calm (pos x) from to = omega (arith, heel-is q some c upright (gust c gusty .0) .before x (omega arith) (omega arith), mul-le-mul-left q (let l : 5_000_000 * lw1 c ≤ level = omega (arith, lw2-up c .over) in l))
+    calm (pos x) from to = omega (arith, heel-is q some c upright (gust c gusty .0) .before x (omega arith) (omega arith), mul-le-mul-left q (mul-le-mul-left (c .unit * 5_000_000) (let l : lw1 c ≤ lw2 c = omega (arith, lw2-up c .over) in l)))
     calm (negsuc x) from to = omega (arith, up-neg (leverBy q c (suc x)), dn-neg (leverBy q c (suc x)), go (suc x / q) (suc x % q) (mod-lt (suc x) some) (div-add-mod (suc x) q))
       where
         -- t is within the reach of the windward side.
         near : (t : ℕ) → q * (up (start c) + t) ≤ q * dn (start c) → dn (y c (pos t)) ≤ level + up (y c (pos t))
         near t l =
-            let above : Le (negℤ (units (lw2 c))) (y c (pos t)) = high t (omega (arith, up-neg (pos t), dn-neg (pos t), le-of-mul-le-mul-left {k = q} l some)) in
-            omega (arith, up-neg (units (lw2 c)), dn-neg (units (lw2 c)))
+            let above : Le (negℤ (units (c .unit) (lw2 c))) (y c (pos t)) = high t (omega (arith, up-neg (pos t), dn-neg (pos t), le-of-mul-le-mul-left {k = q} l some)) in
+            omega (arith, up-neg (units (c .unit) (lw2 c)), dn-neg (units (c .unit) (lw2 c)))
 
         line : (p r : ℕ) (a b : ℤ) → p + r ≡ q → dn a ≤ level + up a → (0 < r → dn b ≤ level + up b) → dn (pos p *ℤ a +ℤ pos r *ℤ b) ≤ q * level + up (pos p *ℤ a +ℤ pos r *ℤ b)
         line p zero a b z h k = omega (arith, linear p 0 a b, mul-le-mul-left p h, ap (λ (n : ℕ). n * level) z)
@@ -99,7 +99,7 @@ module _ (q : ℕ) (some : 0 < q) (c : Loaded) (upright : y c (pos 0) ≡ pos 0)
             let all : q - r + r ≡ q = omega arith in
             let width = omega-width t r z in
             subst (λ (v : ℤ). dn v ≤ q * level + up v) (sym (lee q some c (q - r) r t all) ∙ ap (leverBy q c) z)
-            (line (q - r) r (lever (c .kn) (c .kg) t) (lever (c .kn) (c .kg) (t + 1)) all (near t (omega arith)) (λ more. near (t + 1) (next t (omega arith))))
+            (line (q - r) r (lever (c .unit) (c .kn) (c .kg) t) (lever (c .unit) (c .kn) (c .kg) (t + 1)) all (near t (omega arith)) (λ more. near (t + 1) (next t (omega arith))))
           where
             omega-width : (t r : ℕ) → q * t + r ≡ suc x → q * up (start c) + q * t + r ≤ q * dn (start c)
             omega-width t r z = omega (arith, up-mull q (start c), dn-mull q (start c))
@@ -143,7 +143,7 @@ module _ (q : ℕ) (some : 0 < q) (c : Loaded) (upright : y c (pos 0) ≡ pos 0)
   unfolding startBy
   eighth roll rolling no-more = go (phi0By q c + q * dn (start c) - (roll + q * up (start c))) (omega (arith, start-before q some c upright (gust c gusty .0))) (end-beyond q some c upright gusty)
     where
-      go : (i : ℕ) → i + (roll + q * up (start c)) ≡ phi0By q c + q * dn (start c) → ((j : ℕ) × (eBy q c ≡ q * e c + j) × ((k : ℕ) → k ≤ j → Le (unitsBy q (lw2 c)) (yBy q c (pos (q * e c + k))))) → Le (pos 0) (netBy q roll c)
+      go : (i : ℕ) → i + (roll + q * up (start c)) ≡ phi0By q c + q * dn (start c) → ((j : ℕ) × (eBy q c ≡ q * e c + j) × ((k : ℕ) → k ≤ j → Le (unitsBy q (c .unit) (lw2 c)) (yBy q c (pos (q * e c + k))))) → Le (pos 0) (netBy q roll c)
       go i at (j, end, up-there) = sum (netBy q roll c) (sumZ (gusts q c) i t) (net c) (sumZ (gusts q c) j (pos (q * e c))) (pieces q some c upright roll i j n at-start end wide inside) low (after q some c upright j up-there) net-from
         where
           t : ℤ
@@ -159,7 +159,7 @@ module _ (q : ℕ) (some : 0 < q) (c : Loaded) (upright : y c (pos 0) ≡ pos 0)
           low : Le (sumZ (gusts q c) i (pos q *ℤ start c)) (pos 0)
           low = not-positive (gusts q c) i (pos q *ℤ start c) (λ k l. ends-low q some c upright (yBy q c (pos q *ℤ start c +ℤ pos k)) (yBy q c (pos q *ℤ start c +ℤ pos k +ℤ pos 1)) (at-step (pos q *ℤ start c +ℤ pos k) k (omega (arith, add≡ (pos q *ℤ start c) (pos k))) (omega arith)) (at-step (pos q *ℤ start c +ℤ pos k +ℤ pos 1) (k + 1) (omega (arith, add≡ (pos q *ℤ start c) (pos k), add≡ (pos q *ℤ start c +ℤ pos k) (pos 1))) (omega arith)))
             where
-              at-step : (x : ℤ) (k : ℕ) → up x + dn (pos q *ℤ start c) ≡ up (pos q *ℤ start c) + k + dn x → k ≤ i → Le (yBy q c x) (unitsBy q (lw2 c))
+              at-step : (x : ℤ) (k : ℕ) → up x + dn (pos q *ℤ start c) ≡ up (pos q *ℤ start c) + k + dn x → k ≤ i → Le (yBy q c x) (unitsBy q (c .unit) (lw2 c))
               at-step x k z l = calm q some c upright gusty high x (omega arith) (omega (arith, up-mull q (start c), dn-mull q (start c)))
 
           sum : (x a m b : ℤ) → x +ℤ a ≡ pos (q * q) *ℤ m +ℤ b → Le a (pos 0) → Le (pos 0) b → Le (pos 0) m → Le (pos 0) x

@@ -12,16 +12,17 @@ use borrow.Author.Tests.{leb-true, ltb-true, ltb-false, lt-ltb, le-ltb}
 use Rattle.rules.specs.Rounding.{down, line, onward, table, span}
 use Rattle.rules.specs.Blocks.{Row}
 use Rattle.rules.specs.Layout.{Reading, Rising, Limits}
-use Rattle.rules.specs.Outcome.{got, test}
-use Rattle.rules.specs.Loading.{total, moment, freeSurface, correctedKG, entriesOf, firstMass, lastMass, inTable, greatestKG, weighed}
-use Rattle.rules.specs.Curve.{between, stations, knAt, loadedAt, loaded}
+use Rattle.rules.specs.Outcome.{got}
+use Rattle.rules.specs.Loading.{tenths, total, moment, freeSurface, correctedKG, entriesOf, firstMass, lastMass, inTable, weighed}
+use Rattle.rules.specs.Curve.{between, stations, knAt, loadedAt, loaded, loadedIn}
 use Rattle.rules.specs.Criteria.{lw1}
-use Rattle.rules.proofs.walk.Outcome.{test-inv}
 use Rattle.rules.proofs.layout.Fields.{both-true}
 use Rattle.rules.proofs.rounding.StraightLine.{line-rounded}
 use Rattle.rules.proofs.rounding.Divisions.{kg-up, lw1-up}
+use Rattle.rules.proofs.loading.Fair.{weighed-inv}
 use Rattle.earned.specs.Verdicts.{Behind}
 use Rattle.earned.specs.Exact.{cell, gapFrom, spanFrom, gapAt, spanAt, weight, over, column, exact, Straight, Fractions}
+use Rattle.earned.proofs.Keeps.{getD-finer}
 
 -- ---- a value of the table is rounded down from the exact one
 gap-pos : (r : Row) (rows : List Row) (w : ℕ) → r .mass ≤ w → 0 < gapFrom r rows w
@@ -128,13 +129,18 @@ module _ (R : Reading) (limits : Limits R) where
     lw1 = omega arith;
   }
 
+-- ---- a reading is judged in tenths
+pub in-unit : (R : Reading) → 0 < loaded R .unit
+unfolding loadedIn loadedAt
+in-unit R = omega arith
+
 -- ---- a reading that is judged: W is not below the first row, so it is above zero
 module _ (R : Reading) (limits : Limits R) (judged : weighed R ≡ got tt) where
   floats : firstMass (R .rows) ≤ weight R
-  unfolding weighed inTable
-  floats = leb-true (firstMass (R .rows)) (weight R) (both-true (leb (firstMass (R .rows)) (weight R)) (leb (weight R) (lastMass (R .rows))) (test-inv (inTable (R .rows) (weight R)) 7 0 0 (test (leb (correctedKG (entriesOf R)) greatestKG) 8 0 0) judged .0) .0)
+  unfolding inTable
+  floats = leb-true (firstMass (R .rows)) (weight R) (both-true (leb (firstMass (R .rows)) (weight R)) (leb (weight R) (lastMass (R .rows))) (weighed-inv tenths R judged .0) .0)
 
-  some : 0 < weight R
+  pub some : 0 < weight R
   unfolding firstMass Rising
   some = go (R .rows) (limits .few) (limits .rising) floats
     where
@@ -164,11 +170,11 @@ module _ (R : Reading) (limits : Limits R) (judged : weighed R ≡ got tt) where
 
   -- ---- what is used is rounded from the exact values: KN and KM down, KG and lw1 up
   pub exact-behind : Behind (over R) (exact R) (loaded R)
-  unfolding exact loaded loadedAt knAt over
+  unfolding exact loadedIn loadedAt knAt over
   exact-behind = record {
-    kn = λ i. omega (arith, each (over R) (λ i. between (R .rows) (λ v. getD (v .kn) i 0) (weight R)) (λ i. column (λ v. getD (v .kn) i 0) R) (λ i. table-down (λ v. getD (v .kn) i 0)) stations i);
+    kn = λ i. omega (arith, ap (λ (x : ℕ). over R * x) (getD-finer tenths (map (λ i. between (R .rows) (λ v. getD (v .kn) i 0) (weight R)) stations) i), each (over R) (λ i. between (R .rows) (λ v. getD (v .kn) i 0) (weight R)) (λ i. column (λ v. getD (v .kn) i 0) R) (λ i. table-down (λ v. getD (v .kn) i 0)) stations i);
     km = omega (arith, table-down (λ v. v .km));
-    kg = omega (arith, kg-less (total moment (entriesOf R) + total freeSurface (entriesOf R)) (correctedKG (entriesOf R)) (weight R) (gapAt (R .rows) (weight R)) (kg-up (entriesOf R) some .over));
+    kg = omega (arith, kg-less (total moment (entriesOf R) + total freeSurface (entriesOf R)) (correctedKG (entriesOf R)) (weight R) (gapAt (R .rows) (weight R)) (kg-up tenths (entriesOf R) some .over));
     lw1 = omega (arith, lw1-less (5040 * R .condition .weather .sky .windArea * R .condition .weather .sky .z) (lw1 (loaded R)) (weight R) (gapAt (R .rows) (weight R)) (lw1-up (loaded R) some .over));
   }
     where
@@ -177,7 +183,7 @@ module _ (R : Reading) (limits : Limits R) (judged : weighed R ≡ got tt) where
       each D f g h (n ∷ l) zero = h n
       each D f g h (n ∷ l) (suc k) = each D f g h l k
 
-      kg-less : (m k w g : ℕ) → m ≤ k * w → 1 * (m * (g * 981)) ≤ w * g * 981 * k
+      kg-less : (m k w g : ℕ) → tenths * m ≤ k * w → tenths * (m * (g * 981)) ≤ w * g * 981 * k
       kg-less m k w g h = omega (arith, mul-le-mul-right g h)
 
       lw1-less : (a l w g : ℕ) → a ≤ l * (981 * w) → 1 * (a * g) ≤ w * g * 981 * l

@@ -1,5 +1,5 @@
 -- Criterion 5: with KN as used, the first greatest lever lies no earlier where KG is no greater. So no pass of it is owed to the rounding of KG.
-use mathlib.Core.Path.{_≡_, ap, subst}
+use mathlib.Core.Path.{_≡_, ap, subst, fun-ext}
 use mathlib.Core.Bool.{Bool, true, false, _&&_}
 use Prim.Native.Nat.{ℕ, zero, suc, _+_, _-_, _*_, _/_, _%_, _≤_, _<_}
 use native.Mathlib.Omega.{arith}
@@ -11,6 +11,7 @@ use lib.IntN.{ℤ, subℕ}
 use borrow.Author.Tests.{leb-true, le-leb}
 use Rattle.rules.specs.Rounding.{peak}
 use Rattle.rules.specs.Blocks.{Weather, weather, okWeather, ok, within}
+use Rattle.rules.specs.Loading.{millimetres}
 use Rattle.rules.specs.Curve.{Loaded, fifty, sines, lever, leverZ}
 use Rattle.rules.specs.Criteria.{set, angleOfGreatest, passes5}
 use Rattle.rules.specs.Ranges.{Fair}
@@ -19,6 +20,7 @@ use Rattle.rules.proofs.layout.Fields.{both-true, Limited, limited}
 use Rattle.rules.proofs.rounding.Searches.{Peak, peak-is}
 use Rattle.earned.specs.Order.{Hull, Better}
 use Rattle.earned.specs.Verdicts.{used, Behind, passesFifth}
+use Rattle.earned.proofs.Keeps.{getD-finer, lever-used}
 
 -- ---- the straight-line sine curve does not fall up to 60 degrees: by computing
 abbrev rises : (ℕ → ℕ) → ℕ → Bool
@@ -68,7 +70,7 @@ module _ (m n : ℕ) (h h′ : Hull) (better : Better m n h h′) (same : (i : �
   more : (s u : ℕ) → s ≤ u → m * (h .kg * s) + n * (h′ .kg * u) ≤ m * (h .kg * u) + n * (h′ .kg * s)
   more s u p = let e : m * h .kg ≡ n * h′ .kg + (m * h .kg - n * h′ .kg) = omega (arith, better .kg) in omega (arith, mul-le-mul-left (m * h .kg - n * h′ .kg) p, ap (λ (x : ℕ). x * s) e, ap (λ (x : ℕ). x * u) e)
 
-  gains : (j k : ℕ) → j ≤ k → k ≤ 600 → Gains m n (lever (h .kn) (h .kg)) (lever (h′ .kn) (h′ .kg)) j k
+  gains : (j k : ℕ) → j ≤ k → k ≤ 600 → Gains m n (lever millimetres (h .kn) (h .kg)) (lever millimetres (h′ .kn) (h′ .kg)) j k
   unfolding lever
   gains j k l x = go (100000 * fifty (h .kn) j) (100000 * fifty (h′ .kn) j) (100000 * fifty (h .kn) k) (100000 * fifty (h′ .kn) k) (h .kg * fifty sines j) (h′ .kg * fifty sines j) (h .kg * fifty sines k) (h′ .kg * fifty sines k) (wide (fifty (h .kn) j) (fifty (h′ .kn) j) (fifty-same j)) (wide (fifty (h .kn) k) (fifty (h′ .kn) k) (fifty-same k)) (more (fifty sines j) (fifty sines k) (sine-rises j k l x))
     where
@@ -78,14 +80,26 @@ module _ (m n : ℕ) (h h′ : Hull) (better : Better m n h h′) (same : (i : �
       go : (a a′ b b′ s s′ u u′ : ℕ) → m * a ≡ n * a′ → m * b ≡ n * b′ → m * s + n * u′ ≤ m * u + n * s′ → n * up (subℕ a′ s′) + m * dn (subℕ a s) + (n * dn (subℕ b′ u′) + m * up (subℕ b u)) ≤ n * up (subℕ b′ u′) + m * dn (subℕ b u) + (n * dn (subℕ a′ s′) + m * up (subℕ a s))
       go a a′ b b′ s s′ u u′ p q r = omega (arith, times n a′ s′, times m a s, times n b′ u′, times m b u)
 
-  angle-order : 0 < m → (e : ℕ) → e ≤ 600 → peak (lever (h .kn) (h .kg)) 0 e ≤ peak (lever (h′ .kn) (h′ .kg)) 0 e
-  angle-order some e l = no-earlier m n some (lever (h .kn) (h .kg)) (lever (h′ .kn) (h′ .kg)) 0 e (λ j k p q. gains j k p (omega arith))
+  pub angle-order : 0 < m → (e : ℕ) → e ≤ 600 → peak (lever millimetres (h .kn) (h .kg)) 0 e ≤ peak (lever millimetres (h′ .kn) (h′ .kg)) 0 e
+  angle-order some e l = no-earlier m n some (lever millimetres (h .kn) (h .kg)) (lever millimetres (h′ .kn) (h′ .kg)) 0 e (λ j k p q. gains j k p (omega arith))
 
 -- ---- the flooding angle is at most 60 degrees
-flooding-to : (w : Weather) → okWeather w ≡ true → w .sky .flooding ≤ 600
+pub flooding-to : (w : Weather) → okWeather w ≡ true → w .sky .flooding ≤ 600
 unfolding ok Limited
 flooding-to w h = let L = weather (w .set) in limited (L .fields) (L .listed (w .sky)) (both-true (within (L .fields) (L .listed (w .sky))) (L .further (w .sky)) h .0) .2 .2 .2 .1
 
+-- The angle of the greatest lever is that of the hull used.
+pub angle-used : (c : Loaded) → peak (lever millimetres (used c .kn) (c .kg)) 0 (c .weather .sky .flooding) ≡ peak (lever (c .unit) (c .kn) (c .kg)) 0 (c .weather .sky .flooding)
+angle-used c = ap (λ (f : ℕ → ℤ). peak f 0 (c .weather .sky .flooding)) (fun-ext (lever-used c))
+
 pub fifth : (D : ℕ) → 0 < D → (h : Hull) (c : Loaded) → Fair c → Behind D h c → ((i : ℕ) → getD (h .kn) i 0 ≡ D * getD (c .kn) i 0) → passes5 c ≡ true → passesFifth (set c) (c .weather .sky) h ≡ true
 unfolding passes5 angleOfGreatest passesFifth leverZ
-fifth D some h c fair behind same p = le-leb (set c .angle) (peak (lever (h .kn) (h .kg)) 0 (c .weather .sky .flooding)) (le-trans (leb-true (set c .angle) (peak (lever (c .kn) (c .kg)) 0 (c .weather .sky .flooding)) p) (angle-order D 1 (used c) h behind (λ i. omega (arith, same i)) some (c .weather .sky .flooding) (flooding-to (c .weather) (fair .sky))))
+fifth D some h c fair behind same p =
+    let e = c .weather .sky .flooding in
+    le-leb (set c .angle) (peak (lever millimetres (h .kn) (h .kg)) 0 e) (omega (arith, leb-true (set c .angle) (peak (lever (c .unit) (c .kn) (c .kg)) 0 e) p, angle-used c, angle-order D (c .unit) (used c) h behind alike some e (flooding-to (c .weather) (fair .sky))))
+  where
+    alike : (i : ℕ) → D * getD (used c .kn) i 0 ≡ c .unit * getD (h .kn) i 0
+    alike i = rw (getD-finer (c .unit) (c .kn) i, same i) (turn (getD (c .kn) i 0))
+      where
+        turn : (a : ℕ) → D * (c .unit * a) ≡ c .unit * (D * a)
+        turn a = omega arith

@@ -78,24 +78,24 @@ module _ (q : ℕ) (some : 0 < q) (c : Loaded) (upright : y c (pos 0) ≡ pos 0)
 
   -- ---- phi0
   module _ (reached : phi0 c ≤ E c) where
-    pub heel-is : Reaches (yBy q c) (unitsBy q (lw1 c)) 0 (q * E c) (phi0By q c)
+    pub heel-is : Reaches (yBy q c) (unitsBy q (c .unit) (lw1 c)) 0 (q * E c) (phi0By q c)
     unfolding phi0By
-    heel-is = reaches-is (yBy q c) (unitsBy q (lw1 c)) 0 (q * E c)
+    heel-is = reaches-is (yBy q c) (unitsBy q (c .unit) (lw1 c)) 0 (q * E c)
 
     pub heel-to : phi0By q c ≤ q * phi0 c
     heel-to = elim (decLe (phi0By q c) (q * phi0 c)) [
       | yes k ↦ k
-      | no k ↦ absurd (omega (arith, heel-is .before (q * phi0 c) (omega arith) (omega arith), above (5_000_000 * lw1 c) (q * phi0 c) (phi0 c) 0 (omega arith) (omega arith) (phi0-is c .hit reached) (λ none. absurd (omega arith))))
+      | no k ↦ absurd (omega (arith, heel-is .before (q * phi0 c) (omega arith) (omega arith), above (c .unit * 5_000_000 * lw1 c) (q * phi0 c) (phi0 c) 0 (omega arith) (omega arith) (phi0-is c .hit reached) (λ none. absurd (omega arith))))
     ]
 
-    pub heel-hit : Le (unitsBy q (lw1 c)) (yBy q c (pos (phi0By q c)))
+    pub heel-hit : Le (unitsBy q (c .unit) (lw1 c)) (yBy q c (pos (phi0By q c)))
     heel-hit = heel-is .hit (omega (arith, heel-to, mul-le-mul-left q reached))
 
     -- Later than the tenth before the one used.
     pub heel-from : (m : ℕ) → phi0 c ≡ suc m → q * m < phi0By q c
     heel-from m e = elim (decLe (phi0By q c) (q * m)) [
       | no k ↦ omega arith
-      | yes k ↦ absurd (omega (arith, heel-hit, up-to (5_000_000 * lw1 c) m (λ t i. phi0-is c .before t (omega arith) (omega arith)) (phi0By q c) k))
+      | yes k ↦ absurd (omega (arith, heel-hit, up-to (c .unit * 5_000_000 * lw1 c) m (λ t i. phi0-is c .before t (omega arith) (omega arith)) (phi0By q c) k))
     ]
 
     -- So it lies within the tenth that ends at the one used.
@@ -107,15 +107,15 @@ module _ (q : ℕ) (some : 0 < q) (c : Loaded) (upright : y c (pos 0) ≡ pos 0)
         go (suc m) z = omega (arith, heel-from m z)
 
     -- On a tenth, that tenth.
-    pub heel-whole : y c (pos (phi0 c)) ≡ units (lw1 c) → phi0By q c ≡ q * phi0 c
+    pub heel-whole : y c (pos (phi0 c)) ≡ units (c .unit) (lw1 c) → phi0By q c ≡ q * phi0 c
     heel-whole e = elim (decLe (q * phi0 c) (phi0By q c)) [
       | yes k ↦ omega (arith, heel-to)
-      | no k ↦ absurd (omega (arith, heel-hit, before (5_000_000 * lw1 c) (phi0 c) (λ t i. phi0-is c .before t (omega arith) i) (omega (arith, ap up e, ap dn e)) (phi0By q c) (omega arith)))
+      | no k ↦ absurd (omega (arith, heel-hit, before (c .unit * 5_000_000 * lw1 c) (phi0 c) (λ t i. phi0-is c .before t (omega arith) i) (omega (arith, ap up e, ap dn e)) (phi0By q c) (omega arith)))
     ]
 
     -- So the start used is no further to leeward than phi0 less phi1.
     pub start-before : q * up (start c) + q * phi1 c ≤ phi0By q c + q * dn (start c)
-    start-before = go (ℤ-discrete (y c (pos (phi0 c))) (units (lw1 c))) (phi0 c) refl
+    start-before = go (ℤ-discrete (y c (pos (phi0 c))) (units (c .unit) (lw1 c))) (phi0 c) refl
       where
         from-heel : (a : ℕ) → start c ≡ pos a -ℤ pos (phi1 c) → q * a ≤ phi0By q c → q * up (start c) + q * phi1 c ≤ phi0By q c + q * dn (start c)
         from-heel a z h = rw z (omega (arith, ap (λ (k : ℕ). q * k) (diff≡ (pos a) (pos (phi1 c)))))
@@ -123,29 +123,29 @@ module _ (q : ℕ) (some : 0 < q) (c : Loaded) (upright : y c (pos 0) ≡ pos 0)
         one-before : (n m : ℕ) → n ≡ suc m → pos n -ℤ pos 1 ≡ pos m
         one-before n m z = eq! (pos n -ℤ pos 1) (pos m) (omega (arith, diff≡ (pos n) (pos 1)))
 
-        go : Dec (y c (pos (phi0 c)) ≡ units (lw1 c)) → (n : ℕ) → phi0 c ≡ n → q * up (start c) + q * phi1 c ≤ phi0By q c + q * dn (start c)
+        go : Dec (y c (pos (phi0 c)) ≡ units (c .unit) (lw1 c)) → (n : ℕ) → phi0 c ≡ n → q * up (start c) + q * phi1 c ≤ phi0By q c + q * dn (start c)
         go (yes k) n z = from-heel (phi0 c) (start-at c k) (omega (arith, heel-whole k))
         go (no k) zero z =
             let here : y c (pos (phi0 c)) ≡ pos 0 = ap (λ (t : ℕ). y c (pos t)) z ∙ upright in
-            absurd (k (eq! (y c (pos (phi0 c))) (units (lw1 c)) (omega (arith, ap up here, ap dn here, phi0-is c .hit reached))))
+            absurd (k (eq! (y c (pos (phi0 c))) (units (c .unit) (lw1 c)) (omega (arith, ap up here, ap dn here, phi0-is c .hit reached))))
         go (no k) (suc m) z = from-heel m (angles.start-before c reached k ∙ ap (λ (s : ℤ). s -ℤ pos (phi1 c)) (one-before (phi0 c) m z)) (omega (arith, heel-from m z))
 
   module _ (gusty : noGust c ≡ false) where
     -- ---- u
-    under-gust : (t : ℕ) → t < u c → Lt (y c (pos t)) (units (lw2 c))
+    under-gust : (t : ℕ) → t < u c → Lt (y c (pos t)) (units (c .unit) (lw2 c))
     under-gust t l = elim (decLe (phi0 c) t) [
       | yes k ↦ u-is c .before t k l
-      | no k ↦ omega (arith, phi0-is c .before t (omega arith) (omega arith), lw2-up c .over)
+      | no k ↦ omega (arith, phi0-is c .before t (omega arith) (omega arith), mul-le-mul-left (c .unit * 5_000_000) (let l : lw1 c ≤ lw2 c = omega (arith, lw2-up c .over) in l))
     ]
 
-    rise-is : Reaches (yBy q c) (unitsBy q (lw2 c)) (phi0By q c) (q * farthest c) (uBy q c)
+    rise-is : Reaches (yBy q c) (unitsBy q (c .unit) (lw2 c)) (phi0By q c) (q * farthest c) (uBy q c)
     unfolding uBy
-    rise-is = reaches-is (yBy q c) (unitsBy q (lw2 c)) (phi0By q c) (q * farthest c)
+    rise-is = reaches-is (yBy q c) (unitsBy q (c .unit) (lw2 c)) (phi0By q c) (q * farthest c)
 
     rise-to : uBy q c ≤ q * u c
     rise-to = elim (decLe (uBy q c) (q * u c)) [
       | yes k ↦ k
-      | no k ↦ absurd (omega (arith, rise-is .before (q * u c) (omega (arith, heel-to (gust c gusty .0), mul-le-mul-left q (u-is c .low))) (omega arith), above (5_000_000 * lw2 c) (q * u c) (u c) 0 (omega arith) (omega arith) (u-is c .hit (gust c gusty .1)) (λ none. absurd (omega arith))))
+      | no k ↦ absurd (omega (arith, rise-is .before (q * u c) (omega (arith, heel-to (gust c gusty .0), mul-le-mul-left q (u-is c .low))) (omega arith), above (c .unit * 5_000_000 * lw2 c) (q * u c) (u c) 0 (omega arith) (omega arith) (u-is c .hit (gust c gusty .1)) (λ none. absurd (omega arith))))
     ]
 
     rise-in : uBy q c ≤ q * farthest c
@@ -154,23 +154,23 @@ module _ (q : ℕ) (some : 0 < q) (c : Loaded) (upright : y c (pos 0) ≡ pos 0)
     rise-from : (m : ℕ) → u c ≡ suc m → q * m < uBy q c
     rise-from m z = elim (decLe (uBy q c) (q * m)) [
       | no k ↦ omega arith
-      | yes k ↦ absurd (omega (arith, rise-is .hit rise-in, up-to (5_000_000 * lw2 c) m (λ t i. under-gust t (omega arith)) (uBy q c) k))
+      | yes k ↦ absurd (omega (arith, rise-is .hit rise-in, up-to (c .unit * 5_000_000 * lw2 c) m (λ t i. under-gust t (omega arith)) (uBy q c) k))
     ]
 
     -- ---- e
-    pub end-is : Stays (yBy q c) (unitsBy q (lw2 c)) (uBy q c) (q * farthest c) (eBy q c)
+    pub end-is : Stays (yBy q c) (unitsBy q (c .unit) (lw2 c)) (uBy q c) (q * farthest c) (eBy q c)
     unfolding eBy
-    end-is = stays-is (yBy q c) (unitsBy q (lw2 c)) (uBy q c) (q * farthest c) rise-in (rise-is .hit rise-in)
+    end-is = stays-is (yBy q c) (unitsBy q (c .unit) (lw2 c)) (uBy q c) (q * farthest c) rise-in (rise-is .hit rise-in)
 
     -- From u on, up to the tenth used, the curve stays at or above lw2: between the tenths too, and on the way up to the tenth at u.
-    up-there : (x : ℕ) → uBy q c ≤ x → x ≤ q * e c → Le (unitsBy q (lw2 c)) (yBy q c (pos x))
+    up-there : (x : ℕ) → uBy q c ≤ x → x ≤ q * e c → Le (unitsBy q (c .unit) (lw2 c)) (yBy q c (pos x))
     up-there x from to = elim (decLe (q * u c) x) [
       | yes k ↦ along (x / q) (x % q) (mod-lt x some) (div-add-mod x q) k
       | no k ↦ rising (u c) refl (omega arith)
     ]
       where
         level : ℕ
-        level = 5_000_000 * lw2 c
+        level = c .unit * 5_000_000 * lw2 c
 
         high : (t : ℕ) → u c ≤ t → t ≤ e c → Le (pos level) (y c (pos t))
         high = e-is c gusty .all
@@ -208,5 +208,5 @@ module _ (q : ℕ) (some : 0 < q) (c : Loaded) (upright : y c (pos 0) ≡ pos 0)
     ]
 
     -- So e lies j parts beyond the one used, and up to there the curve is at or above lw2.
-    pub end-beyond : (j : ℕ) × (eBy q c ≡ q * e c + j) × ((k : ℕ) → k ≤ j → Le (unitsBy q (lw2 c)) (yBy q c (pos (q * e c + k))))
+    pub end-beyond : (j : ℕ) × (eBy q c ≡ q * e c + j) × ((k : ℕ) → k ≤ j → Le (unitsBy q (c .unit) (lw2 c)) (yBy q c (pos (q * e c + k))))
     end-beyond = (eBy q c - q * e c, omega (arith, end-from), λ k l. end-is .all (q * e c + k) (omega (arith, rise-to, mul-le-mul-left q (e-is c gusty .low))) (omega (arith, end-from)))

@@ -15,3 +15,5 @@ pub mod Falling
 pub mod Rolling
 pub mod Cases
 pub mod Counterexample
+pub mod Harsher
+pub mod Tenths

@@ -10,6 +10,7 @@ use lib.ListN.{getD}
 use lib.IntN.{ℤ, pos, subℕ, natAbs, _+ℤ_, _-ℤ_}
 use lib.Signed.{ltZ}
 use Rattle.rules.specs.Rounding.{peak, sumZ}
+use Rattle.rules.specs.Loading.{millimetres}
 use Rattle.rules.specs.Curve.{fifty, sines, lever, leverZ, area}
 use Rattle.rules.specs.Criteria.{reaches}
 use Rattle.rules.proofs.rounding.Signed.{Le, add≡, sub≡}
@@ -34,7 +35,7 @@ module _ (m n : ℕ) where
       go : (a b a′ b′ u v : ℕ) → m * a ≤ n * a′ → m * b ≤ n * b′ → m * (a * u + b * v) ≤ n * (a′ * u + b′ * v)
       go a b a′ b′ u v p q = omega (arith, mul-le-mul-right u p, mul-le-mul-right v q)
 
-  lever-order : (h h′ : Hull) → Better m n h h′ → (t : ℕ) → NoLess m n (lever (h .kn) (h .kg) t) (lever (h′ .kn) (h′ .kg) t)
+  lever-order : (h h′ : Hull) → Better m n h h′ → (t : ℕ) → NoLess m n (lever millimetres (h .kn) (h .kg) t) (lever millimetres (h′ .kn) (h′ .kg) t)
   unfolding lever
   lever-order h h′ b t = difference (100000 * fifty (h .kn) t) (h .kg * fifty sines t) (100000 * fifty (h′ .kn) t) (h′ .kg * fifty sines t) (wide (fifty (h .kn) t) (fifty (h′ .kn) t) (fifty-rises (h .kn) (h′ .kn) (λ i. omega (arith, b .kn i)) t)) (falls (fifty sines t))
     where

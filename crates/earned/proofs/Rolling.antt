@@ -17,7 +17,7 @@ use Rattle.rules.proofs.rounding.Signed.{dn, Le, add≡, sub≡, up-mull, dn-mu
 use Rattle.rules.proofs.rounding.Rounding.{ceil-is, ceilZ-is}
 use Rattle.rules.proofs.layout.Fields.{both-true, Limited, limited}
 use Rattle.rules.proofs.rounding.Divisions.{b-down, q-down, keelIndex-down}
-use Rattle.rules.proofs.criteria.Ranges.{Judged, r-range, period-judged, phi1-judged, C-whole}
+use Rattle.rules.proofs.criteria.Ranges.{Judged, deep, deep-pos, r-range, period-judged, phi1-judged, C-whole}
 use Rattle.earned.specs.Rolling.{finerTable, exactX1, exactX2, exactK, exactS, exactR, exactC, NoShorter, exactP, over, WithinRoll}
 use Rattle.earned.proofs.Falling.{table-finer, table-beyond}
 
@@ -57,16 +57,16 @@ module _ (c : Loaded) (f : Fair c) (j : Judged c) (M : ℕ) where
   unfolding exactS s
   s-least D x some l = table-beyond D M some S refl refl (period c) x l
 
-  -- r d ≥ 130 d + 600 KG.
-  r-least : exactR c ≤ natAbs (r c) * c .draught
+  -- r d ≥ 130 d + 600 KG, with d in KG's unit.
+  r-least : exactR c ≤ natAbs (r c) * deep c j
   unfolding exactR rOf
-  r-least = go (ceilZ n (c .draught)) (natAbs (r c)) (r-range c j .0) (ceilZ-is n (c .draught) draught .over)
+  r-least = go (deep c j) (ceilZ n (deep c j)) (natAbs (r c)) (r-range c j .0) (ceilZ-is n (deep c j) (deep-pos c j) .over)
     where
       n : ℤ
-      n = pos 600 *ℤ subℕ (c .kg) (c .draught)
+      n = pos 600 *ℤ subℕ (c .kg) (deep c j)
 
-      go : (z : ℤ) (m : ℕ) → pos 730 +ℤ z ≡ pos m → Le n (z *ℤ pos (c .draught)) → 130 * c .draught + 600 * c .kg ≤ m * c .draught
-      go z m e l = omega (arith, ap (λ (k : ℕ). k * c .draught) (let h : 730 + signed.up z ≡ m + dn z = omega (arith, add≡ (pos 730) z, ap signed.up e, ap dn e) in h), up-mulr z (c .draught), dn-mulr z (c .draught), up-mull 600 (subℕ (c .kg) (c .draught)), dn-mull 600 (subℕ (c .kg) (c .draught)), sub≡ (c .kg) (c .draught))
+      go : (d : ℕ) (z : ℤ) (m : ℕ) → pos 730 +ℤ z ≡ pos m → Le (pos 600 *ℤ subℕ (c .kg) d) (z *ℤ pos d) → 130 * d + 600 * c .kg ≤ m * d
+      go d z m e l = omega (arith, ap (λ (k : ℕ). k * d) (let h : 730 + signed.up z ≡ m + dn z = omega (arith, add≡ (pos 730) z, ap signed.up e, ap dn e) in h), up-mulr z d, dn-mulr z d, up-mull 600 (subℕ (c .kg) d), dn-mull 600 (subℕ (c .kg) d), sub≡ (c .kg) d)
 
   p-least : k c * x1 c * x2 c ≤ 1_000_000 * p c
   unfolding p
@@ -85,7 +85,7 @@ module _ (c : Loaded) (f : Fair c) (j : Judged c) (M : ℕ) where
   roll-least D x some l parts roll h = elim (decLe roll (parts * phi1 c)) [ yes m ↦ m | no m ↦ absurd (omega (arith, below, above (roll - 1) (omega arith))) ]
     where
       wide : ℕ
-      wide = over M * over M * c .draught * M
+      wide = over M * over M * deep c j * M
 
       -- (g y) (r d) (m s) is (g d m) (y r s).
       group : (g d m y r s : ℕ) → g * y * (r * d) * (m * s) ≡ g * d * m * (y * r * s)
@@ -104,7 +104,7 @@ module _ (c : Loaded) (f : Fair c) (j : Judged c) (M : ℕ) where
           subst (λ (y : ℕ). parts * parts * (a * a * r * s) ≤ y) (turn (g * g * d * m) t n) (mul-le-mul-left (parts * parts) (le-trans two (mul-le-mul-left (g * g * d * m) h)))
 
       below : parts * parts * (1090 * exactP M c * (1090 * exactP M c) * exactR c * exactS M D x) ≤ wide * (10 ^ 13 * (parts * phi1 c * (parts * phi1 c)))
-      below = go (over M) (c .draught) M (1090 * exactP M c) (exactR c) (exactS M D x) (1090 * p c) (natAbs (r c)) (s c) (10 ^ 13) (phi1 c) (omega (arith, factors-least)) r-least (s-least D x some l) (omega (arith, phi1-judged c j .0 .hit))
+      below = go (over M) (deep c j) M (1090 * exactP M c) (exactR c) (exactS M D x) (1090 * p c) (natAbs (r c)) (s c) (10 ^ 13) (phi1 c) (omega (arith, factors-least)) r-least (s-least D x some l) (omega (arith, phi1-judged c j .0 .hit))
 
       above : (n : ℕ) → parts * phi1 c ≤ n → wide * (10 ^ 13 * (parts * phi1 c * (parts * phi1 c))) ≤ wide * (10 ^ 13 * (n * n))
       above n l = mul-le-mul-left wide (mul-le-mul-left (10 ^ 13) (mul-le-mul l l))
@@ -122,18 +122,18 @@ module _ (c : Loaded) (f : Fair c) (j : Judged c) where
   q-least = omega (arith, mul-le-mul-left (100 * c .draught) (q-down c .under), mul-le-mul-left (2 * c .ship .breadth) C-least)
 
   pub period-least : (D x : ℕ) → NoShorter D x c → D * period c ≤ x
-  period-least D x h = elim (decLe (D * period c) x) [ yes m ↦ m | no m ↦ absurd (go (10 ^ 8 * c .draught) (2 * exactC c * c .ship .breadth) (period c) (c .km - c .kg) (q c) (omega arith) (omega arith) q-least (period-judged c j .hit) h (omega arith)) ]
+  period-least D x h = elim (decLe (D * period c) x) [ yes m ↦ m | no m ↦ absurd (go (c .unit * 10) (10 ^ 8 * c .draught) (2 * exactC c * c .ship .breadth) (period c) (c .unit * c .km - c .kg) (q c) (omega arith) (omega arith) q-least (period-judged c j .hit) h (omega arith)) ]
     where
-      go : (w E n G q : ℕ) → 0 < w → 0 < G → w * q ≤ E → n * n * G ≤ 10 * q * q → 10 * (E * D) * (E * D) ≤ w * x * (w * x) * G → x < D * n → ⊥
-      go w E n G q some-w some-G hq hn hx l =
-          let exact : 10 * (w * D * q) * (w * D * q) ≤ w * x * (w * x) * G = le-trans (ten (w * D * q) (E * D) (mul-le-mul wide wide)) hx in
+      go : (k w E n G q : ℕ) → 0 < w → 0 < G → w * q ≤ E → n * n * G ≤ k * q * q → k * (E * D) * (E * D) ≤ w * x * (w * x) * G → x < D * n → ⊥
+      go k w E n G q some-w some-G hq hn hx l =
+          let exact : k * (w * D * q) * (w * D * q) ≤ w * x * (w * x) * G = le-trans (ten (w * D * q) (E * D) (mul-le-mul wide wide)) hx in
           apart (w * x) (w * D) (omega (arith, mul-le-mul-left w l)) exact
         where
           wide : w * D * q ≤ E * D
           wide = omega (arith, mul-le-mul-right D hq)
 
-          ten : (a b : ℕ) → a * a ≤ b * b → 10 * a * a ≤ 10 * b * b
-          ten a b h = omega arith
+          ten : (a b : ℕ) → a * a ≤ b * b → k * a * a ≤ k * b * b
+          ten a b h = omega (arith, mul-le-mul-left k h)
 
-          apart : (a v : ℕ) → a + 1 ≤ v * n → 10 * (v * q) * (v * q) ≤ a * a * G → ⊥
-          apart a v h k = omega (arith, mul-le-mul-right G (mul-le-mul h h), mul-le-mul-left (v * v) hn)
+          apart : (a v : ℕ) → a + 1 ≤ v * n → k * (v * q) * (v * q) ≤ a * a * G → ⊥
+          apart a v h z = omega (arith, mul-le-mul-right G (mul-le-mul h h), mul-le-mul-left (v * v) hn)

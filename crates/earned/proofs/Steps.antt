@@ -52,29 +52,29 @@ refined k D p r some-k some-D e vs x = go (x / D) (x % D) (mod-lt x some-D) (div
 -- ---- y at q-ths of a tenth
 module _ (q : ℕ) (some : 0 < q) (c : Loaded) where
   -- To leeward.
-  pub lee : (p r t : ℕ) → p + r ≡ q → leverBy q c (q * t + r) ≡ pos p *ℤ lever (c .kn) (c .kg) t +ℤ pos r *ℤ lever (c .kn) (c .kg) (t + 1)
+  pub lee : (p r t : ℕ) → p + r ≡ q → leverBy q c (q * t + r) ≡ pos p *ℤ lever (c .unit) (c .kn) (c .kg) t +ℤ pos r *ℤ lever (c .unit) (c .kn) (c .kg) (t + 1)
   unfolding leverBy lever
   lee p r t e = rw (refined q 50 p r some (omega arith) e (c .kn) t, refined q 50 p r some (omega arith) e sines t) (go (fifty (c .kn) t) (fifty (c .kn) (t + 1)) (fifty sines t) (fifty sines (t + 1)))
     where
-      go : (v w a b : ℕ) → subℕ (100_000 * (p * v + r * w)) (c .kg * (p * a + r * b)) ≡ pos p *ℤ subℕ (100_000 * v) (c .kg * a) +ℤ pos r *ℤ subℕ (100_000 * w) (c .kg * b)
+      go : (v w a b : ℕ) → subℕ (c .unit * 100_000 * (p * v + r * w)) (c .kg * (p * a + r * b)) ≡ pos p *ℤ subℕ (c .unit * 100_000 * v) (c .kg * a) +ℤ pos r *ℤ subℕ (c .unit * 100_000 * w) (c .kg * b)
       go v w a b =
-          let x = subℕ (100_000 * v) (c .kg * a) in
-          let z = subℕ (100_000 * w) (c .kg * b) in
-          eq! (subℕ (100_000 * (p * v + r * w)) (c .kg * (p * a + r * b))) (pos p *ℤ x +ℤ pos r *ℤ z)
-          (omega (arith, sub≡ (100_000 * (p * v + r * w)) (c .kg * (p * a + r * b)), ap (λ (k : ℕ). p * k) (sub≡ (100_000 * v) (c .kg * a)), ap (λ (k : ℕ). r * k) (sub≡ (100_000 * w) (c .kg * b)), add≡ (pos p *ℤ x) (pos r *ℤ z), up-mull p x, dn-mull p x, up-mull r z, dn-mull r z))
+          let x = subℕ (c .unit * 100_000 * v) (c .kg * a) in
+          let z = subℕ (c .unit * 100_000 * w) (c .kg * b) in
+          eq! (subℕ (c .unit * 100_000 * (p * v + r * w)) (c .kg * (p * a + r * b))) (pos p *ℤ x +ℤ pos r *ℤ z)
+          (omega (arith, sub≡ (c .unit * 100_000 * (p * v + r * w)) (c .kg * (p * a + r * b)), ap (λ (k : ℕ). p * k) (sub≡ (c .unit * 100_000 * v) (c .kg * a)), ap (λ (k : ℕ). r * k) (sub≡ (c .unit * 100_000 * w) (c .kg * b)), add≡ (pos p *ℤ x) (pos r *ℤ z), up-mull p x, dn-mull p x, up-mull r z, dn-mull r z))
 
   -- The curve begins at zero, so that it is one with its mirror.
   module _ (upright : y c (pos 0) ≡ pos 0) where
-    leeward : (t : ℕ) → y c (negℤ (pos t)) ≡ negℤ (lever (c .kn) (c .kg) t)
+    leeward : (t : ℕ) → y c (negℤ (pos t)) ≡ negℤ (lever (c .unit) (c .kn) (c .kg) t)
     unfolding leverZ
     leeward zero = upright ∙ sym (ap negℤ upright)
     leeward (suc t) = refl
 
     begins : leverBy q c 0 ≡ pos 0
     unfolding leverZ
-    begins = let e : q * 0 + 0 ≡ 0 = omega arith in let p : q + 0 ≡ q = omega arith in sym (ap (leverBy q c) e) ∙ lee q 0 0 p ∙ nothing (lever (c .kn) (c .kg) (0 + 1)) upright
+    begins = let e : q * 0 + 0 ≡ 0 = omega arith in let p : q + 0 ≡ q = omega arith in sym (ap (leverBy q c) e) ∙ lee q 0 0 p ∙ nothing (lever (c .unit) (c .kn) (c .kg) (0 + 1)) upright
       where
-        nothing : (z : ℤ) → lever (c .kn) (c .kg) 0 ≡ pos 0 → pos q *ℤ lever (c .kn) (c .kg) 0 +ℤ pos 0 *ℤ z ≡ pos 0
+        nothing : (z : ℤ) → lever (c .unit) (c .kn) (c .kg) 0 ≡ pos 0 → pos q *ℤ lever (c .unit) (c .kn) (c .kg) 0 +ℤ pos 0 *ℤ z ≡ pos 0
         nothing z e = rw e (eq! (pos q *ℤ pos 0 +ℤ pos 0 *ℤ z) (pos 0) (omega (arith, add≡ (pos q *ℤ pos 0) (pos 0 *ℤ z), up-mull 0 z, dn-mull 0 z)))
 
     mirrored : (x : ℕ) → yBy q c (negℤ (pos x)) ≡ negℤ (leverBy q c x)
@@ -92,10 +92,10 @@ module _ (q : ℕ) (some : 0 < q) (c : Loaded) where
         let one : t + 1 ≡ suc t = omega arith in
         ap (yBy q c) at
         ∙ mirrored (q * t + p)
-        ∙ ap negℤ (lee r p t back ∙ ap (λ (k : ℕ). pos r *ℤ lever (c .kn) (c .kg) t +ℤ pos p *ℤ lever (c .kn) (c .kg) k) one)
-        ∙ turned (lever (c .kn) (c .kg) t) (lever (c .kn) (c .kg) (suc t))
-        ∙ ap (λ (v : ℤ). pos p *ℤ negℤ (lever (c .kn) (c .kg) (suc t)) +ℤ pos r *ℤ v) (sym (leeward t))
-        ∙ ap (λ (v : ℤ). pos p *ℤ negℤ (lever (c .kn) (c .kg) (suc t)) +ℤ pos r *ℤ y c v) (sym next)
+        ∙ ap negℤ (lee r p t back ∙ ap (λ (k : ℕ). pos r *ℤ lever (c .unit) (c .kn) (c .kg) t +ℤ pos p *ℤ lever (c .unit) (c .kn) (c .kg) k) one)
+        ∙ turned (lever (c .unit) (c .kn) (c .kg) t) (lever (c .unit) (c .kn) (c .kg) (suc t))
+        ∙ ap (λ (v : ℤ). pos p *ℤ negℤ (lever (c .unit) (c .kn) (c .kg) (suc t)) +ℤ pos r *ℤ v) (sym (leeward t))
+        ∙ ap (λ (v : ℤ). pos p *ℤ negℤ (lever (c .unit) (c .kn) (c .kg) (suc t)) +ℤ pos r *ℤ y c v) (sym next)
       where
         turned : (a b : ℤ) → negℤ (pos r *ℤ a +ℤ pos p *ℤ b) ≡ pos p *ℤ negℤ b +ℤ pos r *ℤ negℤ a
         turned a b =

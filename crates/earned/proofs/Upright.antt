@@ -19,5 +19,5 @@ upright c fair = zero-there (getD (c .kn) 0 0) (getD (c .kn) 1 0) (first (c .kn)
     first [] l = omega arith
     first (v ∷ kn) l = l .1
 
-    zero-there : (v w : ℕ) → v ≤ 0 → subℕ (100_000 * (v * 50 + w * 0)) (c .kg * 0) ≡ pos 0
-    zero-there v w h = eq! (subℕ (100_000 * (v * 50 + w * 0)) (c .kg * 0)) (pos 0) (omega (arith, sub≡ (100_000 * (v * 50 + w * 0)) (c .kg * 0)))
+    zero-there : (v w : ℕ) → v ≤ 0 → subℕ (c .unit * 100_000 * (v * 50 + w * 0)) (c .kg * 0) ≡ pos 0
+    zero-there v w h = let e : v ≡ 0 = omega arith in rw e (eq! (subℕ (c .unit * 100_000 * (0 * 50 + w * 0)) (c .kg * 0)) (pos 0) (omega (arith, sub≡ (c .unit * 100_000 * (0 * 50 + w * 0)) (c .kg * 0))))

@@ -5,3 +5,4 @@ pub mod Limits
 pub mod Gust
 pub mod Rolling
 pub mod Example
+pub mod Tenths

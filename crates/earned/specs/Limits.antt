@@ -1,4 +1,4 @@
--- The areas that criteria 1 to 3 ask for, from metre-radians: one is 180/pi metre-degrees, and one metre-degree is 10^11.
+-- The areas that criteria 1 to 3 ask for, from metre-radians: one is 180/pi metre-degrees, and one metre-degree is 10^11, with KG in millimetres. (KG's unit multiplies limits and areas alike.)
 use Prim.Native.Nat.{ℕ, _*_, _^_, _≤_}
 
 -- pi is a fraction num / den. All that is asked of it is that it is at least 3.1415926.

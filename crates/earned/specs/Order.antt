@@ -4,6 +4,7 @@ use Prim.Native.Nat.{ℕ, _+_, _*_, _≤_}
 use lib.ListN.{getD}
 use lib.IntN.{ℤ, pos}
 use Rattle.rules.specs.Rounding.{peak}
+use Rattle.rules.specs.Loading.{millimetres}
 use Rattle.rules.specs.Curve.{leverZ, area}
 use Rattle.rules.specs.Criteria.{reaches}
 use Rattle.rules.proofs.rounding.Signed.{up, dn}
@@ -30,9 +31,9 @@ pub record Better (m n : ℕ) (h h′ : Hull) : Type 0 where
   pub kg : n * h′ .kg ≤ m * h .kg
   pub lw1 : n * h′ .lw1 ≤ m * h .lw1
 
--- The curve of a hull.
+-- The curve of a hull: all its numbers are over one denominator, so that none is multiplied.
 abbrev pub curve : Hull → ℤ → ℤ
-curve h = leverZ (h .kn) (h .kg)
+curve h = leverZ millimetres (h .kn) (h .kg)
 
 -- What follows where the second of two curves is nowhere below the first, n of its units against m.
 pub record Follows (m n : ℕ) (f g : ℤ → ℤ) : Type 0 where

@@ -27,18 +27,18 @@ exactK M c = elim (eqb (c .ship .bilge) 1) [ true ↦ M * 700 | false ↦ table 
 unfoldable pub exactS : ℕ → ℕ → ℕ → ℕ
 exactS M D x = table up (finerTable D M S) x
 
--- r, over d: 730 + 600 (KG - d)/d is (130 d + 600 KG) / d.
+-- r, over d in the unit of KG: 730 + 600 (KG - d)/d is (130 d + 600 KG) / d.
 unfoldable pub exactR : Loaded → ℕ
-exactR c = 130 * c .draught + 600 * c .kg
+exactR c = 130 * (c .unit * c .draught) + 600 * c .kg
 
 -- ---- the period
 -- C, over 100 d: 373,000 + 23 x 1000 B/d - 43 L/100.
 unfoldable pub exactC : Loaded → ℕ
 exactC c = 37_300_000 * c .draught + 2_300_000 * c .ship .breadth - 43 * c .ship .hullLength * c .draught
 
--- x / D is no shorter than the exact period: n² GM = 10 q² with q = 2 C B / 10^6.
+-- x / D is no shorter than the exact period: n² GM = 10 q² with q = 2 C B / 10^6, and GM in mm.
 abbrev pub NoShorter : ℕ → ℕ → Loaded → Type 0
-NoShorter D x c = 10 * (2 * exactC c * c .ship .breadth * D) * (2 * exactC c * c .ship .breadth * D) ≤ 10 ^ 8 * c .draught * x * (10 ^ 8 * c .draught * x) * (c .km - c .kg)
+NoShorter D x c = c .unit * 10 * (2 * exactC c * c .ship .breadth * D) * (2 * exactC c * c .ship .breadth * D) ≤ 10 ^ 8 * c .draught * x * (10 ^ 8 * c .draught * x) * (c .unit * c .km - c .kg)
 
 -- ---- the roll
 -- k X1 X2, over `over M` thousandths.
@@ -50,4 +50,4 @@ over M = 1_000_000 * (M * M * M)
 
 -- `roll` q-ths of a tenth are no more than the exact roll, rounded up to a q-th: one less is below 1090 k X1 X2 sqrt(r s).
 abbrev pub WithinRoll : ℕ → ℕ → ℕ → Loaded → ℕ → ℕ → Type 0
-WithinRoll M D x c q roll = over M * over M * c .draught * M * (10 ^ 13 * ((roll - 1) * (roll - 1))) < q * q * (1090 * exactP M c * (1090 * exactP M c) * exactR c * exactS M D x)
+WithinRoll M D x c q roll = over M * over M * (c .unit * c .draught) * M * (10 ^ 13 * ((roll - 1) * (roll - 1))) < q * q * (1090 * exactP M c * (1090 * exactP M c) * exactR c * exactS M D x)

@@ -1,11 +1,13 @@
--- Criteria 1, 2, 3, 4, 6 and 7 by what they depend on, over a denominator D: limits are D times 01's. Over 1 they are the judgement's own.
+-- Criteria 1, 2, 3, 4, 6 and 7 by what they depend on, over a denominator D: limits are D times 01's. Over KG's unit they are the judgement's own.
 use mathlib.Core.Bool.{Bool, true, false, not, _&&_, _||_}
+use mathlib.Core.List.{map}
 use Prim.Native.Nat.{ℕ, _-_, _*_, min}
 use lib.Dec.{leb, ltb}
 use lib.IntN.{ℤ, pos, subℕ}
 use lib.Signed.{leZ}
 use Rattle.rules.specs.Rounding.{peak}
 use Rattle.rules.specs.Blocks.{Sky}
+use Rattle.rules.specs.Loading.{millimetres}
 use Rattle.rules.specs.Curve.{Loaded, area}
 use Rattle.rules.specs.Criteria as criteria
 use Rattle.rules.specs.Criteria.{Criteria, units, reaches, passes1, passes2, passes3, passes4, passes6, passes7}
@@ -24,7 +26,7 @@ greatestLever from e h = elim (ltb e from) [ true ↦ pos 0 | false ↦ curve h 
 
 -- 'phi0 = first t in 0..E with y >= lw1.'
 unfoldable pub phi0 : ℕ → Hull → ℕ
-phi0 e h = reaches (curve h) (units (h .lw1)) 0 e
+phi0 e h = reaches (curve h) (units millimetres (h .lw1)) 0 e
 
 -- Over any set.
 unfoldable pub passesOver : ℕ → Criterion → Criteria → Sky → Hull → Bool
@@ -57,11 +59,11 @@ place four = 4
 place six = 6
 place seven = 7
 
--- The numbers that it uses.
+-- The numbers that it uses, over KG's unit: 'KN, KM, d, lw1 and lw2 keep millimetres and are multiplied where they meet' (request 5).
 abbrev pub used : Loaded → Hull
-used c = record { kn = c .kn; km = c .km; kg = c .kg; lw1 = criteria.lw1 c }
+used c = record { kn = map (λ v. c .unit * v) (c .kn); km = c .unit * c .km; kg = c .kg; lw1 = c .unit * criteria.lw1 c }
 
 -- ---- exact values
 -- Over D, these lie behind the numbers used: KG and lw1 no greater, KN and KM no less.
 abbrev pub Behind : ℕ → Hull → Loaded → Type 0
-Behind D h c = Better D 1 (used c) h
+Behind D h c = Better D (c .unit) (used c) h

@@ -26,11 +26,11 @@ module _ (c : Loaded) where
   begin : Bool → ℤ
   begin reached = elim reached [ true ↦ pos (phi0 c) -ℤ pos (phi1 c) | false ↦ pos (phi0 c) -ℤ pos 1 -ℤ pos (phi1 c) ]
 
-  pub start-there : leZ (y c (pos (phi0 c))) (units (lw1 c)) ≡ true → pos (phi0 c) -ℤ pos (phi1 c) ≡ start c
+  pub start-there : leZ (y c (pos (phi0 c))) (units (c .unit) (lw1 c)) ≡ true → pos (phi0 c) -ℤ pos (phi1 c) ≡ start c
   unfolding start begin
   start-there h = ap begin (sym h)
 
-  pub start-before : leZ (y c (pos (phi0 c))) (units (lw1 c)) ≡ false → pos (phi0 c) -ℤ pos 1 -ℤ pos (phi1 c) ≡ start c
+  pub start-before : leZ (y c (pos (phi0 c))) (units (c .unit) (lw1 c)) ≡ false → pos (phi0 c) -ℤ pos 1 -ℤ pos (phi1 c) ≡ start c
   unfolding start begin
   start-before h = ap begin (sym h)
 
@@ -45,7 +45,7 @@ tilt-to (negsuc a) n h l = l
 -- The windward side is the mirror with its sign changed, so that an area from either side takes away the same area from upright.
 mirrored : (c : Loaded) → Fair c → (a : ℤ) (t : ℕ) → Le a (pos t) → area (y c) a (pos t) ≡ upTo (y c) t -ℤ upTo (y c) (natAbs a)
 mirrored c fair (pos a) t h = leeward (y c) a t (omega arith)
-mirrored c fair (negsuc a) t h = windward (y c) (lever-odd (c .kn) (c .kg) (fair-upright c fair)) (suc a) t
+mirrored c fair (negsuc a) t h = windward (y c) (lever-odd (c .unit) (c .kn) (c .kg) (fair-upright c fair)) (suc a) t
 
 -- ---- how far they reach
 module _ (c : Loaded) (blown : Blown c) where
@@ -60,7 +60,7 @@ module _ (c : Loaded) (blown : Blown c) where
 
   pub start-range : (up (start c) ≤ phi0 c) × (dn (start c) ≤ 351)
   unfolding start begin
-  start-range = go (leZ (y c (pos (phi0 c))) (units (lw1 c)))
+  start-range = go (leZ (y c (pos (phi0 c))) (units (c .unit) (lw1 c)))
     where
       go : (reached : Bool) → (up (begin c reached) ≤ phi0 c) × (dn (begin c reached) ≤ 351)
       go true = omega (arith, taken (pos (phi0 c)) (phi1 c), roll-to)
@@ -76,7 +76,7 @@ module _ (c : Loaded) (blown : Blown c) where
   pub area-from : area (y c) (start c) (pos (e c)) ≡ upTo (y c) (e c) -ℤ upTo (y c) (natAbs (start c))
   area-from = mirrored c (blown .fair) (start c) (e c) start-to-end
 
-  pub area-within : natAbs (area (y c) (start c) (pos (e c))) ≤ 2 * 10 ^ 15
+  pub area-within : natAbs (area (y c) (start c) (pos (e c))) ≤ 2 * 10 ^ 16
   area-within =
       rw area-from
       (omega (arith, abs-minus (upTo (y c) (e c)) (upTo (y c) (natAbs (start c))), upTo-within c (blown .fair) (e c) (omega (arith, end-range)), upTo-within c (blown .fair) (natAbs (start c)) (omega (arith, start-tilt)), end-range, start-tilt))
@@ -85,7 +85,10 @@ module _ (c : Loaded) (blown : Blown c) where
   pub width-within : natAbs (pos (e c) -ℤ start c) ≤ 1000
   width-within = omega (arith, abs-minus (pos (e c)) (start c), end-range, start-tilt)
 
-  pub gust-within : natAbs (pos 2 *ℤ units (lw2 c) *ℤ (pos (e c) -ℤ start c)) ≤ 15_000_000_000_000 * 1000
+  far : (m l : ℕ) → m ≡ 10 → l ≤ 1_500_000 → 2 * (m * 5_000_000 * l) ≤ 150_000_000_000_000
+  far m l e h = rw e (omega arith)
+
+  pub gust-within : natAbs (pos 2 *ℤ units (c .unit) (lw2 c) *ℤ (pos (e c) -ℤ start c)) ≤ 150_000_000_000_000 * 1000
   gust-within =
-      let l : 2 * (5_000_000 * lw2 c) ≤ 15_000_000_000_000 = omega (arith, lw2-to c (blown .fair)) in
-      rw (abs-mul (pos 2 *ℤ units (lw2 c)) (pos (e c) -ℤ start c)) (mul-le-mul l width-within)
+      let l : 2 * (c .unit * 5_000_000 * lw2 c) ≤ 150_000_000_000_000 = far (c .unit) (lw2 c) (blown .fair .unit) (lw2-to c (blown .fair)) in
+      rw (abs-mul (pos 2 *ℤ units (c .unit) (lw2 c)) (pos (e c) -ℤ start c)) (mul-le-mul l width-within)

@@ -18,7 +18,7 @@ module _ (c : Loaded) (fair : Fair c) where
   y-within t h =
       let gs = leversOf (c .kn) (c .kg) in
       let small = levers-within (c .kn) (c .kg) (fair-sized c fair) in
-      rw (← straight-lever (c .kn) (c .kg) t h) (straight-within (getD gs (t / 50) (pos 0)) (getD gs (t / 50 + 1) (pos 0)) (t % 50) mostG (omega arith) (small (t / 50)) (small (t / 50 + 1)))
+      rw (fair .unit) (rw (← straight-lever (c .kn) (c .kg) t h) (straight-within (getD gs (t / 50) (pos 0)) (getD gs (t / 50 + 1) (pos 0)) (t % 50) mostG (omega arith) (small (t / 50)) (small (t / 50 + 1))))
 
   pub upTo-within : (n : ℕ) → n ≤ 600 → natAbs (upTo (y c) n) ≤ n * (2 * mostY)
   upTo-within zero h = rw (upTo-none (y c)) (omega arith)

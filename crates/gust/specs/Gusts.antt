@@ -14,14 +14,14 @@ use Rattle.gust.specs.declared.Gust.the-variants.{NotJudged, Failed, Net
 
 -- An array of y at each tenth, and one of the area up to each.
 abbrev pub Curve : Loaded → List ℤ → Type 0
-Curve c ys = Holds (lever (c .kn) (c .kg)) ys
+Curve c ys = Holds (lever (c .unit) (c .kn) (c .kg)) ys
 
 abbrev pub Areas : Loaded → List ℤ → Type 0
 Areas c sums = Holds (upTo (y c)) sums
 
 -- 'Either becomes y units.'
 abbrev pub windOf : Loaded → Wind
-windOf c = record { lw1 = units (lw1 c); lw2 = units (lw2 c); phi0 = phi0 c }
+windOf c = record { lw1 = units (c .unit) (lw1 c); lw2 = units (c .unit) (lw2 c); phi0 = phi0 c }
 
 -- Criterion 8 is judged, and there is a phi0 and a u.
 pub record Blown (c : Loaded) : Type 0 where

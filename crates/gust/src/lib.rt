@@ -4,6 +4,7 @@ ghost use mathlib.Core.Path.{_≡_};
 ghost use mathlib.Core.Bool.{false};
 ghost use Prim.Native.Nat.{_≤_};
 ghost use lib.IntN.{pos, natAbs};
+ghost use Rattle.rules.specs.Loading.{tenths};
 ghost use Rattle.rules.specs.Curve.{y as yOf, area as areaOf};
 ghost use Rattle.rules.specs.Criteria.{lw2 as lw2Of, units as unitsOf};
 ghost use Rattle.rules.specs.Roll.{phi1, start as startOf, farthest as farthestOf, e as eOf, net as netOf, notJudged};
@@ -27,12 +28,12 @@ pub enum Gust {
     Net { roll: i64, net: i64 },
 }
 
-// Millimetres in y units.
+// Millimetres in y units, with KG in tenths of them.
 fn units(l: u64) -> i64
     requires { ⌜ l ≤ 1_500_000 ⌝ }
-    ensures { λ r. ⌜ r ≡ unitsOf l ⌝ }
+    ensures { λ r. ⌜ r ≡ unitsOf tenths l ⌝ }
 {
-    (5_000_000 * l) as i64
+    (50_000_000 * l) as i64
 }
 
 // Steady wind: phi0 is the first tenth at which the curve reaches lw1.
@@ -93,7 +94,7 @@ fn area_from(c: Loaded, area: &[i64; 601], start: i64, e: usize) -> i64
 
 // Less 2 lw2 for each tenth from the start to e.
 fn net(c: Loaded, area: &[i64; 601], lw2: i64, start: i64, e: usize) -> i64
-    requires { ⌜ Blown (loadedOf c) × Areas (loadedOf c) (now area) × (lw2 ≡ unitsOf (lw2Of (loadedOf c))) × (start ≡ startOf (loadedOf c)) × (e ≡ eOf (loadedOf c)) ⌝ }
+    requires { ⌜ Blown (loadedOf c) × Areas (loadedOf c) (now area) × (lw2 ≡ unitsOf tenths (lw2Of (loadedOf c))) × (start ≡ startOf (loadedOf c)) × (e ≡ eOf (loadedOf c)) ⌝ }
     ensures { λ r. ⌜ r ≡ netOf (loadedOf c) ⌝ }
 {
     let under = area_from(c, area, start, e);

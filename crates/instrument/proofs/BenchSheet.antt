@@ -9,7 +9,7 @@ use Rattle.rules.specs.Layout.{mostCharacters}
 use Rattle.rules.specs.Outcome.{refused}
 use Rattle.rules.specs.Report.{report, reportLength}
 use Rattle.rules.specs.Booklet.{readWhole}
-use Rattle.rules.specs.Answer.{answered, numberOf, reportOf, taken, firstNumber, numberFor, sent, over, number, written, room}
+use Rattle.rules.specs.Answer.{answered, answeredIn, numberOf, reportOf, taken, firstNumber, numberFor, sent, over, number, written, room}
 use Rattle.rules.proofs.answer.Steps.{report-refused}
 use Rattle.rules.proofs.booklet.Sent.{number-taken, written-taken}
 use Rattle.rules.proofs.booklet.Room.{with-room}
@@ -60,7 +60,7 @@ mistyped-one = (refl, refl, refl, refl)
 pub judged-0 : (numberOf (answered P1) ≡ 0) × (numberOf (answered (tanker "C3")) ≡ 0) × (numberOf (answered (tanker "C5")) ≡ 0)
     × (numberOf (answered (tender "C1")) ≡ 0) × (numberOf (answered (tender "C6")) ≡ 0) × (numberOf (answered (coaster "C1")) ≡ 0) × (numberOf (answered (coaster "C6")) ≡ 0)
     × (numberOf (answered above400) ≡ 0) × (numberOf (answered below400) ≡ 0) × (numberOf (answered above800) ≡ 0) × (numberOf (answered below800) ≡ 0)
-unfolding answered
+unfolding answeredIn
 judged-0 = (refl, refl, refl, refl, refl, refl, refl, refl, refl, refl, refl)
 
 -- P12, the empty text, is refused for the whole, and so is a table with a digit missing.

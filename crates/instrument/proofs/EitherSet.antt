@@ -11,8 +11,8 @@ use Rattle.rules.specs.Text.{hex}
 use Rattle.rules.specs.Blocks.{Ship, Row, Set, code, timber}
 use Rattle.rules.specs.Layout.{Condition, Reading}
 use Rattle.rules.specs.Outcome.{refused, got}
-use Rattle.rules.specs.Loading.{weighed}
-use Rattle.rules.specs.Curve.{loaded, y}
+use Rattle.rules.specs.Loading.{weighed, weighedIn}
+use Rattle.rules.specs.Curve.{loaded, loadedIn, y}
 use Rattle.rules.specs.Criteria.{angleOfGreatest}
 use Rattle.rules.specs.Columns.{figureIn, slotOf, verdictIn}
 use Rattle.rules.specs.Report.{Verdict, pass, void, unused, verdictNumber, Judgement, judgement, noJudgement, report}
@@ -31,15 +31,15 @@ use Rattle.instrument.proofs.TwoLines.{alike-number, alike-but-line}
 
 -- What is judged is in the set of the reading; and in another set, the same in that set.
 set-of : (r : Reading) → loaded r .weather .set ≡ r .condition .weather .set
-unfolding loaded
+unfolding loadedIn
 set-of r = refl
 
 loaded-in : (s : Set) (r : Reading) → loaded (readingBy s r) ≡ loadedBy s (loaded r)
-unfolding loaded
+unfolding loadedIn
 loaded-in s r = refl
 
 weighed-in : (s : Set) (r : Reading) → weighed (readingBy s r) ≡ weighed r
-unfolding weighed
+unfolding weighedIn
 weighed-in s r = refl
 
 -- ---- slots that read 4

@@ -2,13 +2,13 @@
 use mathlib.Core.Path.{_≡_, refl, ap, sym, _∙_}
 use mathlib.Core.Bool.{Bool, true, false}
 use mathlib.Core.List.{List}
-use Prim.Native.Nat.{ℕ}
+use Prim.Native.Nat.{ℕ, _*_}
 use native.Mathlib.Omega.{arith}
 use lib.Dec.{leb}
 use Rattle.rules.specs.Layout.{Reading}
 use Rattle.rules.specs.Outcome.{refused, got, test, _>>=_, _>>_}
 use Rattle.rules.specs.Blocks.{Row}
-use Rattle.rules.specs.Loading.{weighed, weighedAt, inTable, displacement, correctedKG, greatestKG, entriesOf}
+use Rattle.rules.specs.Loading.{tenths, weighed, weighedAt, inTable, displacement, correctedKG, greatestKG, entriesOf}
 use Rattle.rules.specs.Curve.{Loaded, loadedAt, loaded}
 use Rattle.rules.specs.Report.{judgement}
 use Rattle.rules.specs.Ranges.{Fair}
@@ -33,7 +33,7 @@ use Rattle.instrument.specs.Sent.{Sent, Says, SentJudged}
 -- 'For 7, 8 and 9 both are 0.'
 pub no-place : (rows : List Row) (s : Sums) (w : Weighed) → w ≡ weighedOf rows s → (x f : Refusal) → w ≡ weighing.Refused x → f ≡ weighedFault w → (f .line ≡ 0) × (f .offset ≡ 0)
 unfolding weighedOf weighedAt test _>>_ _>>=_
-no-place rows s w e x f q p = rw (p ∙ ap weighedFault q) (go (inTable rows (s .mass)) (leb (kgOf s) greatestKG) (sym q ∙ e))
+no-place rows s w e x f q p = rw (p ∙ ap weighedFault q) (go (inTable rows (s .mass)) (leb (kgOf s) (tenths * greatestKG)) (sym q ∙ e))
   where
     of : (n : ℕ) → weighing.Refused x ≡ weighing.Refused (refusal n 0 0) → (x .line ≡ 0) × (x .offset ≡ 0)
     of n e = let q : x ≡ refusal n 0 0 = cc in rw q (refl, refl)
@@ -68,13 +68,13 @@ module _ (r : Reading) (s : Ship) (x : Condition) (t : Table) (T : Says r s x t)
     pub in-table : inTable (rowsOf t) w ≡ true
     in-table = rw (T .rows, fine .1) (soundness.reading-in-table r (fine .0))
 
-    loaded-of : (l : plain.Loaded) → loadedOf l ≡ loadedAt (shipOf s) (rowsOf t) (weatherOf (x .weather)) w kg → loadedOf l ≡ loaded r
+    loaded-of : (l : plain.Loaded) → loadedOf l ≡ loadedAt tenths (shipOf s) (rowsOf t) (weatherOf (x .weather)) w kg → loadedOf l ≡ loaded r
     loaded-of l p = p ∙ rw (T .hull, T .load, T .rows, fine .1, fine .2, weather-plain (r .condition .weather)) (soundness.reading-loaded r)
 
-    pub fair-of : (l : plain.Loaded) → loadedOf l ≡ loadedAt (shipOf s) (rowsOf t) (weatherOf (x .weather)) w kg → Fair (loadedOf l)
+    pub fair-of : (l : plain.Loaded) → loadedOf l ≡ loadedAt tenths (shipOf s) (rowsOf t) (weatherOf (x .weather)) w kg → Fair (loadedOf l)
     fair-of l p = rw (loaded-of l p) (fair r (T .limits) (fine .0))
 
     -- The judgement of the loaded ship.
-    pub sent-loaded : (l : plain.Loaded) → loadedOf l ≡ loadedAt (shipOf s) (rowsOf t) (weatherOf (x .weather)) w kg → (j : plain′.Judgement) → j ≡ judgementOf (judgement (loadedOf l))
+    pub sent-loaded : (l : plain.Loaded) → loadedOf l ≡ loadedAt tenths (shipOf s) (rowsOf t) (weatherOf (x .weather)) w kg → (j : plain′.Judgement) → j ≡ judgementOf (judgement (loadedOf l))
         → {before after : List ℕ} {n : ℕ} → SentJudged j before n after → Sent (judged r) before n after
     sent-loaded l p j q sends = rw (judged-weighed r (fine .0)) (sends (judgement (loaded r)) (q ∙ ap (λ (c : Loaded). judgementOf (judgement c)) (loaded-of l p)))

@@ -13,6 +13,7 @@ pub mod Faults
 pub mod FirstReport
 pub mod TwoLines
 pub mod EitherSet
+pub mod LineUnit
 pub mod Within
 pub mod OfOne
 pub mod BenchSheet

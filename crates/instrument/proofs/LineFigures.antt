@@ -1,7 +1,7 @@
 -- The verdicts and figures in the report of a condition line: those of its reading where it is judged, and 3 on a refusal.
 use mathlib.Core.Path.{_≡_, refl, ap, sym, _∙_}
 use mathlib.Core.List.{List, [], _∷_}
-use Prim.Native.Nat.{ℕ, suc, _+_, _-_, _<_}
+use Prim.Native.Nat.{ℕ, suc, _+_, _-_, _<_, _*_}
 use native.Mathlib.Omega.{arith}
 use lib.IntN.{pos}
 use lib.ListN.{getD, getD-replicate, length-map}
@@ -11,9 +11,9 @@ use Rattle.rules.specs.Text.{hex}
 use Rattle.rules.specs.Blocks.{Ship, Row}
 use Rattle.rules.specs.Layout.{Condition, Reading}
 use Rattle.rules.specs.Outcome.{got}
-use Rattle.rules.specs.Loading.{mass, moment, freeSurface, weighed}
+use Rattle.rules.specs.Loading.{tenths, mass, moment, freeSurface, weighed}
 use Rattle.rules.specs.Leaves.{sumLeaves}
-use Rattle.rules.specs.Curve.{loaded}
+use Rattle.rules.specs.Curve.{loaded, loadedIn}
 use Rattle.rules.specs.Report.{Verdict, void, verdictNumber, judgement, noJudgement, report}
 use Rattle.rules.specs.Columns.{figureIn, slotOf, verdictIn}
 use Rattle.rules.specs.Apart.{AllowedLine}
@@ -50,13 +50,13 @@ module _ {s : Ship} {vs : List Row} {ln : ℕ} {l r : List ℕ} (q : Reports s v
         ap (figureIn i) (has-judged q c w .1) ∙ figure-column 0 0 0 _ _ (L .0) (L .1) i k
 
     W-figure : figureIn 0 r ≡ hex (digits 8 (sumLeaves mass (c .0 .load)))
-    unfolding judgement loaded
+    unfolding judgement loadedIn
     W-figure = figure-is 0 (omega arith) ∙ ap (λ (n : ℕ). hex (digits 8 n)) (displacement-leaves (c .0 .load))
 
-    KG-figure : figureIn 1 r ≡ hex (digits 8 (ceil (sumLeaves moment (c .0 .load) + sumLeaves freeSurface (c .0 .load)) (sumLeaves mass (c .0 .load))))
-    unfolding judgement loaded
-    KG-figure = figure-is 1 (omega arith) ∙ ap (λ (n : ℕ). hex (digits 8 n)) (correctedKG-leaves (c .0 .load))
+    KG-figure : figureIn 1 r ≡ hex (digits 8 (ceil (10 * (sumLeaves moment (c .0 .load) + sumLeaves freeSurface (c .0 .load))) (sumLeaves mass (c .0 .load))))
+    unfolding judgement loadedIn
+    KG-figure = figure-is 1 (omega arith) ∙ ap (λ (n : ℕ). hex (digits 8 n)) (correctedKG-leaves tenths (c .0 .load))
 
   pub figures-of-leaves : HasNumber 0 r → (c : AllowedLine l) → (figureIn 0 r ≡ hex (digits 8 (sumLeaves mass (c .0 .load))))
-      × (figureIn 1 r ≡ hex (digits 8 (ceil (sumLeaves moment (c .0 .load) + sumLeaves freeSurface (c .0 .load)) (sumLeaves mass (c .0 .load)))))
+      × (figureIn 1 r ≡ hex (digits 8 (ceil (10 * (sumLeaves moment (c .0 .load) + sumLeaves freeSurface (c .0 .load))) (sumLeaves mass (c .0 .load)))))
   figures-of-leaves z c = judged-by q z c (λ w. (W-figure c w, KG-figure c w))

@@ -54,6 +54,9 @@ module _ {s : Ship} {vs : List Row} {ln : ℕ} {l r : List ℕ} (q : Reports s v
   numbered : HasNumber (numberOf (answerAt s vs ln l)) r
   numbered = rw (q .reported) (number-reported (answerAt s vs ln l))
 
+  pub number-of-reading : (c : AllowedLine l) → HasNumber (numberOf (judged (reading (c .0)))) r
+  number-of-reading c = rw (of-reading (c .0) (line-got ln c)) (number-reported (judged (reading (c .0))))
+
   pub has-refused : {n m o : ℕ} → answerAt s vs ln l ≡ refused n m o → HasNumber n r × (r ≡ report n m o noJudgement)
   unfolding report
   has-refused {n} {m} {o} e = (rw e at numbered, q .reported ∙ ap reportOf e ∙ report-refused n m o)

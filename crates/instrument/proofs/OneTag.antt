@@ -95,7 +95,7 @@ module _ {t t′ before before′ : List ℕ} {n n′ : ℕ} {after after′ : L
     pub tank-read : (c : AllowedLine (lineAt (a .0) k)) → (t : Tank) × (c′ : AllowedLine (lineAt (a′ .0) k′)) × (c .0 .weather ≡ c′ .0 .weather) × MadeCargo t (c .0 .load) (c′ .0 .load)
         × (t .fill < 980 → reportIn k after ≡ reportIn k′ after′)
         × (980 ≤ t .fill → HasNumber 0 (reportIn k′ after′) → (figureIn 0 (reportIn k′ after′) ≡ hex (digits 8 (sumLeaves mass (c .0 .load))))
-        × (figureIn 1 (reportIn k′ after′) ≡ hex (digits 8 (ceil (sumLeaves moment (c .0 .load) + sumLeaves freeSurface (c .0 .load) + 1000 * t .density * t .inertia) (sumLeaves mass (c .0 .load))))))
+        × (figureIn 1 (reportIn k′ after′) ≡ hex (digits 8 (ceil (10 * (sumLeaves moment (c .0 .load) + sumLeaves freeSurface (c .0 .load) + 1000 * t .density * t .inertia)) (sumLeaves mass (c .0 .load))))))
     tank-read = never-forgiven (here d) (there d) refl refl (made-cargo (d .lines) ln)
 
   -- ---- C1 and C6

@@ -1,5 +1,5 @@
 -- What is promised of the instrument, to be read without the proofs: each promise is one theorem with a sentence above it, and its proof stands elsewhere.
--- All but those of texts alone (as `one-booklet`) are stated of `judge`, or of `room` or `judge_within`, through its contract, which it is proved to meet (proofs/judge, room, judge_within), or of what that leaves (`RefusedWhole`, `EachAnswered`). Their words are defined in the rules' specs/: Apart (which texts are allowed as a whole, which condition lines are, and what each says), Booklet and Answer (the order of checks, and what is answered), Report and Columns (a report's 209 characters, and where each number stands among them), Places (where a refusal may stand), Leaves and Loading (sums, masses and KG), Mistyped (typing slips), Cargo and Timber (a C3 made a C5, and the slots of the timber set); and in specs/: Reported (where report k stands, and what is left in the buffer), Faults (1, 2, 4, 5 and 10), Outside (7 and 8) and OneTag (two condition lines that differ in one tag alone).
+-- All but those of texts alone (as `one-booklet`) are stated of `judge`, or of `room` or `judge_within`, through its contract, which it is proved to meet (proofs/judge, room, judge_within), or of what that leaves (`RefusedWhole`, `EachAnswered`). Their words are defined in the rules' specs/: Apart (which texts are allowed as a whole, which condition lines are, and what each says), Booklet and Answer (the order of checks, and what is answered), Report and Columns (a report's 209 characters, and where each number stands among them), Places (where a refusal may stand), Leaves and Loading (sums, masses and KG), Mistyped (typing slips), Unit (KG in a finer unit), Cargo and Timber (a C3 made a C5, and the slots of the timber set); and in specs/: Reported (where report k stands, and what is left in the buffer), Faults (1, 2, 4, 5 and 10), Outside (7 and 8) and OneTag (two condition lines that differ in one tag alone).
 -- Reports, conditions and figures are counted from 0, verdicts from 1, lines of a text from 1.
 use mathlib.Core.Path.{_≡_, refl, ap, sym, _∙_}
 use mathlib.Core.Bool.{true}
@@ -14,25 +14,27 @@ use Rattle.rules.specs.Rounding.{ceil}
 use Rattle.rules.specs.Numbers.{Bytes, digits, twos}
 use Rattle.rules.specs.Text.{hex, text, Lines}
 use Rattle.rules.specs.Blocks.{conditionTag, code, timber, Tank}
-use Rattle.rules.specs.Layout.{mostCharacters, conditionLines}
+use Rattle.rules.specs.Layout.{mostCharacters, conditionLines, Limits}
 use Rattle.rules.specs.Outcome.{refused, got}
-use Rattle.rules.specs.Loading.{mass, moment, freeSurface, weighed}
+use Rattle.rules.specs.Loading.{millimetres, mass, moment, freeSurface, correctedKG, entriesOf, weighed}
 use Rattle.rules.specs.Leaves.{sumLeaves, SameSums}
 use Rattle.rules.specs.Cargo.{MadeCargo, RetaggedLines}
 use Rattle.rules.specs.Timber.{TimberLines, conditionBy, UnusedSlot, EasedSlot}
-use Rattle.rules.specs.Curve.{loaded, y}
+use Rattle.rules.specs.Curve.{loaded, loadedIn, y}
 use Rattle.rules.specs.Criteria.{angleOfGreatest}
-use Rattle.rules.specs.Report.{judgement, noJudgement, concat, report, reportLength}
-use Rattle.rules.specs.Columns.{figureIn, verdictIn}
+use Rattle.rules.specs.Report.{pass, verdictNumber, judgement, noJudgement, concat, report, reportLength}
+use Rattle.rules.specs.Columns.{figureIn, slotOf, verdictIn}
 use Rattle.rules.specs.Met.{Overruns}
 use Rattle.rules.specs.Places.{Placed, SameBefore, lookedAt}
 use Rattle.rules.specs.Booklet.{readWhole, conditionAt}
 use Rattle.rules.specs.Apart.{spellBooklet, AllowedWhole, AllowedLine, LinesWithin, lineAt, readingAt, alone, respelt, LastAlone, Misplaced, lineNumber}
 use Rattle.rules.specs.Mistyped.{knValue, Bent, FarOff, nthRow, retypedIn}
-use Rattle.rules.specs.Answer.{answered, numberOf, reportOf, inLine, number, bytesSent, written, limited}
+use Rattle.rules.specs.Answer.{judgedIn, answered, numberOf, reportOf, inLine, number, bytesSent, written, limited}
+use Rattle.rules.specs.Unit.{manifold}
 use Rattle.rules.specs.Answer as answers
 use Rattle.rules.proofs.walk.Retagged.{tanks-alike}
 use Rattle.rules.proofs.walk.Timber.{weathers-alike}
+use Rattle.rules.proofs.booklet.Readings.{reading-limits}
 use Rattle.rules.proofs.booklet.Sent.{under-one}
 use Rattle.rules.proofs.booklet.Room as rooms
 use Rattle.rules.proofs.booklet.OfOne.{room-last}
@@ -58,6 +60,7 @@ use Rattle.instrument.proofs.Faults as faults
 use Rattle.instrument.proofs.LineReport as lines
 use Rattle.instrument.proofs.LineFigures.{figures-of-leaves}
 use Rattle.instrument.proofs.EitherSet as sets
+use Rattle.instrument.proofs.LineUnit as units
 use Rattle.instrument.proofs.TwoLines.{by-sums, fault-alike}
 use Rattle.instrument.proofs.Apart as apart
 use Rattle.instrument.proofs.OneTag as tags
@@ -189,9 +192,9 @@ module _ (text before : List ℕ) (n : ℕ) (after : List ℕ) (run : Judges tex
         figures-of-reading c w = lines.has-judged line c w .1
 
         -- Each entry is counted once, through to the report's characters: for a condition that is judged, the figure of W is the sum of the masses over the leaves of its one tree,
-        -- and the figure of KG the sum of the moments and free surface moments over them, by that sum of masses, rounded up.
+        -- and the figure of KG ten times the sum of the moments and free surface moments over them, by that sum of masses, rounded up: tenths of a millimetre.
         pub counted-once : HasNumber 0 (reportIn k after) → (c : AllowedLine (lineAt (a .0) k)) → (figureIn 0 (reportIn k after) ≡ hex (digits 8 (sumLeaves mass (c .0 .load))))
-            × (figureIn 1 (reportIn k after) ≡ hex (digits 8 (ceil (sumLeaves moment (c .0 .load) + sumLeaves freeSurface (c .0 .load)) (sumLeaves mass (c .0 .load)))))
+            × (figureIn 1 (reportIn k after) ≡ hex (digits 8 (ceil (10 * (sumLeaves moment (c .0 .load) + sumLeaves freeSurface (c .0 .load))) (sumLeaves mass (c .0 .load)))))
         counted-once = figures-of-leaves line
 
         -- A slot of report k reads 4, unused, exactly where the condition is judged in the timber set, its weather a C6, and the slot is 1, 2 or 5. No other slot ever does, and none of a refusal.
@@ -205,6 +208,28 @@ module _ (text before : List ℕ) (n : ℕ) (after : List ℕ) (run : Judges tex
             × (figureIn 7 (reportIn k after) ≡ hex (digits 8 (angleOfGreatest (loaded (readingAt (a .0) (c .0))))))
         lever-at-fifth = sets.lever-sent line
 
+        -- ---- KG in tenths of a millimetre
+        -- What is reported is compared with the judgement of the same condition with KG in millimetres, 01's own before request 5.
+        module _ (c : AllowedLine (lineAt (a .0) k)) where
+          fits : Limits (readingAt (a .0) (c .0))
+          fits = reading-limits mostCharacters text (a .0) (replies.read-back a) (omega arith) k h (lineNumber (a .0) k) (c .0) (lines.line-got (lineNumber (a .0) k) c)
+
+          -- KG's unit decides no refusal: report k has the number, 0, 7 or 8, that this judgement has.
+          pub unit-keeps-number : HasNumber (numberOf (judgedIn millimetres (readingAt (a .0) (c .0)))) (reportIn k after)
+          unit-keeps-number = units.number-sent line c fits
+
+          -- Where the condition is judged and its KG came out whole, ten times a whole number of tenths, report k is that of this judgement, character by character, but for the figures of KG, GM, the three areas, the lever and the net, which are ten times as great: all eight verdicts are the same, in either set, and so are W, the angles and the roll.
+          pub whole-kg-keeps-verdicts : HasNumber 0 (reportIn k after) → (j : ℕ) → correctedKG (entriesOf (readingAt (a .0) (c .0))) ≡ 10 * j → reportIn k after ≡ report 0 0 0 (manifold 10 (judgement (loadedIn millimetres (readingAt (a .0) (c .0)))))
+          whole-kg-keeps-verdicts = units.whole-sent line c fits
+
+          -- Whatever its KG: each slot from 1 to 7, 5 included, that reads pass in millimetres reads pass (1) in report k. (8 can be lost: `eighth-can-be-lost` in the promises of `earned`.)
+          pub tenths-never-harsher : HasNumber 0 (reportIn k after) → (i : ℕ) → 1 ≤ i → i ≤ 7 → slotOf i (judgement (loadedIn millimetres (readingAt (a .0) (c .0)))) ≡ pass → verdictIn i (reportIn k after) ≡ hex (1 ∷ [])
+          tenths-never-harsher = units.harsher-sent line c fits
+
+          -- Slot 6 reads what it reads in every other unit of KG: KM and its limit are whole millimetres, so that no ship fails GM by the rounding of KG, nor passes by it.
+          pub gm-in-any-unit : HasNumber 0 (reportIn k after) → (unit : ℕ) → 0 < unit → verdictIn 6 (reportIn k after) ≡ hex (verdictNumber (slotOf 6 (judgement (loadedIn unit (readingAt (a .0) (c .0))))) ∷ [])
+          gm-in-any-unit = units.sixth-sent line c fits
+
         -- ---- demand 3: which conditions are judged
         -- Report k has a number from 2 to 6 exactly when its line is not allowed, and none of them exactly when it is.
         pub line-iff-allowed : (RefusedLine (reportIn k after) ↔ (¬ AllowedLine (lineAt (a .0) k))) × ((¬ RefusedLine (reportIn k after)) ↔ AllowedLine (lineAt (a .0) k))
@@ -214,7 +239,7 @@ module _ (text before : List ℕ) (n : ℕ) (after : List ℕ) (run : Judges tex
         pub seven-iff-outside : HasNumber 7 (reportIn k after) ↔ ((c : AllowedLine (lineAt (a .0) k)) × Outside (readingAt (a .0) (c .0)))
         seven-iff-outside = lines.number-7 line
 
-        -- It has 8 exactly when the line is allowed, its mass inside the table, and the corrected KG above 60,000.
+        -- It has 8 exactly when the line is allowed, its mass inside the table, and the corrected KG above 600,000 tenths of a millimetre.
         pub eight-iff-too-high : HasNumber 8 (reportIn k after) ↔ ((c : AllowedLine (lineAt (a .0) k)) × TooHigh (readingAt (a .0) (c .0)))
         eight-iff-too-high = lines.number-8 line
 
@@ -340,7 +365,7 @@ module _ (text text′ before before′ : List ℕ) (n n′ : ℕ) (after after�
     pub cargo-never-forgiven : (c : AllowedLine (lineAt (a .0) k)) → (t : Tank) × (c′ : AllowedLine (lineAt (a′ .0) k′)) × (c .0 .weather ≡ c′ .0 .weather) × MadeCargo t (c .0 .load) (c′ .0 .load)
         × (t .fill < 980 → reportIn k after ≡ reportIn k′ after′)
         × (980 ≤ t .fill → HasNumber 0 (reportIn k′ after′) → (figureIn 0 (reportIn k′ after′) ≡ hex (digits 8 (sumLeaves mass (c .0 .load))))
-        × (figureIn 1 (reportIn k′ after′) ≡ hex (digits 8 (ceil (sumLeaves moment (c .0 .load) + sumLeaves freeSurface (c .0 .load) + 1000 * t .density * t .inertia) (sumLeaves mass (c .0 .load))))))
+        × (figureIn 1 (reportIn k′ after′) ≡ hex (digits 8 (ceil (10 * (sumLeaves moment (c .0 .load) + sumLeaves freeSurface (c .0 .load) + 1000 * t .density * t .inertia)) (sumLeaves mass (c .0 .load))))))
     cargo-never-forgiven = tags.tank-read here there a a′ k k′ differ
 
   -- ---- timber on deck
@@ -414,7 +439,7 @@ pub three-conditions : (before : List ℕ) (n : ℕ) (after : List ℕ) → Judg
     → (n ≡ 7) × (after ≡ concat (P1-output ∷ refusal "D100650700000000" ∷ refusal "D100650200060012" ∷ []) ++ drop (3 * reportLength) before)
 three-conditions before n after run room = let q = contract three before n after .0 run in sheet.three-sent before (q .0) (q .1) room
 
--- The planner's tank, filled to 98.5 %, in two texts that differ in the tag alone. As a C3 it is forgiven: KG is 4,000 mm (FA0) and all eight criteria pass. As a C5 it is not: KG is 4,200 mm (1068), and criteria 1 and 3 fail.
+-- The planner's tank, filled to 98.5 %, in two texts that differ in the tag alone. As a C3 it is forgiven: KG is 4,000 mm (9C40 tenths) and all eight criteria pass. As a C5 it is not: KG is 4,200 mm (A410), and criteria 1 and 3 fail.
 pub planners-tank : Sends (tanker "C3") 0 P1-output × Sends (tanker "C5") 0 cargo-output
 planners-tank = (sends (tanker "C3") (sheet.tankers-one .0) (sheet.judged-0 .1) (planner-holds .0), sends (tanker "C5") (sheet.tankers-one .1) (sheet.judged-0 .2) (planner-holds .1 .0))
 

@@ -66,18 +66,18 @@ module _ {s s′ : Ship} {vs vs′ : List Row} {ln ln′ : ℕ} {l l′ r r′ :
     -- From 98 % on the figures are those of the first's sums with the whole moment besides.
     full-figures : (t : Tank) (F G : Entries) → MadeCargo t F G → nominallyFull ≤ t .fill → HasNumber 0 r′ → (c′ : AllowedLine l′) → c′ .0 .load ≡ G
         → (figureIn 0 r′ ≡ hex (digits 8 (sumLeaves mass F)))
-        × (figureIn 1 r′ ≡ hex (digits 8 (ceil (sumLeaves moment F + sumLeaves freeSurface F + 1000 * t .density * t .inertia) (sumLeaves mass F))))
+        × (figureIn 1 r′ ≡ hex (digits 8 (ceil (10 * (sumLeaves moment F + sumLeaves freeSurface F + 1000 * t .density * t .inertia)) (sumLeaves mass F))))
     full-figures t F G m full z c′ e =
         let f = figures-of-leaves q′ z c′ in
         let x = sums-full m full in
         let x0 : sumLeaves mass (c′ .0 .load) ≡ sumLeaves mass F = ap (sumLeaves mass) e ∙ x .0 in
         let x1 : sumLeaves moment (c′ .0 .load) + sumLeaves freeSurface (c′ .0 .load) ≡ sumLeaves moment F + sumLeaves freeSurface F + 1000 * t .density * t .inertia = ap (λ H. sumLeaves moment H + sumLeaves freeSurface H) e ∙ x .1 in
-        (f .0 ∙ ap (λ (m : ℕ). hex (digits 8 m)) x0, f .1 ∙ ap₂ (λ (m w : ℕ). hex (digits 8 (ceil m w))) x1 x0)
+        (f .0 ∙ ap (λ (m : ℕ). hex (digits 8 m)) x0, f .1 ∙ ap₂ (λ (m w : ℕ). hex (digits 8 (ceil (10 * m) w))) x1 x0)
 
     pub never-forgiven : (c : AllowedLine l) → (t : Tank) × (c′ : AllowedLine l′) × (c .0 .weather ≡ c′ .0 .weather) × MadeCargo t (c .0 .load) (c′ .0 .load)
         × (t .fill < 980 → r ≡ r′)
         × (980 ≤ t .fill → HasNumber 0 r′ → (figureIn 0 r′ ≡ hex (digits 8 (sumLeaves mass (c .0 .load))))
-        × (figureIn 1 r′ ≡ hex (digits 8 (ceil (sumLeaves moment (c .0 .load) + sumLeaves freeSurface (c .0 .load) + 1000 * t .density * t .inertia) (sumLeaves mass (c .0 .load))))))
+        × (figureIn 1 r′ ≡ hex (digits 8 (ceil (10 * (sumLeaves moment (c .0 .load) + sumLeaves freeSurface (c .0 .load) + 1000 * t .density * t .inertia)) (sumLeaves mass (c .0 .load))))))
     never-forgiven c =
         let m = made (c .0) (line-got ln c) in
         let x = condition-sound ln l′ _ (q′ .tag) (q′ .bytes) (m .3) in

@@ -25,7 +25,7 @@ pub record Sized (c : Loaded) : Type 0 where
   pub draughtFrom : 500 ≤ c .draught
   pub draughtTo : c .draught ≤ 30_000
   pub kmTo : c .km ≤ 60_000
-  pub kgTo : c .kg ≤ 60_000
+  pub kgTo : c .kg ≤ 600_000
 
 pub sized : (c : Loaded) → Fair c → Sized c
 unfolding ok Limited

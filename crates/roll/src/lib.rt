@@ -1,7 +1,7 @@
 // The wind levers of criterion 7, and the roll to windward of criterion 8 (Code 2.3.4).
 ghost use mathlib.Core.Path.{_≡_};
 ghost use mathlib.Core.Bool.{false};
-ghost use Prim.Native.Nat.{_<_};
+ghost use Prim.Native.Nat.{_*_, _<_};
 ghost use Rattle.rules.specs.Roll.{b as bOf, C as cOf, period as periodOf, k as kOf, p as pOf, r as rOf, phi1 as phi1Of, outsideRange, notJudged};
 ghost use Rattle.rules.specs.Ranges.{Fair};
 ghost use Rattle.book.specs.Book.{loadedOf};
@@ -49,13 +49,13 @@ fn coefficient(c: Loaded, b: u64) -> u64
     373_000 + 23 * b - rounding::ceil(43 * c.ship.length, 100)
 }
 
-// The period n, in 0.01 s, up to 2,000.
+// The period n, in 0.01 s, up to 2,000: n² GM <= 100 q², GM in tenths of a millimetre.
 fn period(c: Loaded, b: u64) -> u64
-    requires { ⌜ Fair (loadedOf c) × (c .kg < c .km) × (b ≡ bOf (loadedOf c)) ⌝ }
+    requires { ⌜ Fair (loadedOf c) × (c .kg < 10 * c .km) × (b ≡ bOf (loadedOf c)) ⌝ }
     ensures { λ r. ⌜ r ≡ periodOf (loadedOf c) ⌝ }
 {
     let q = 2 * coefficient(c, b) * c.ship.breadth / 1_000_000;
-    rounding::greatest_square(c.km - c.kg, 10 * q * q, 2000)
+    rounding::greatest_square(10 * c.km - c.kg, 100 * q * q, 2000)
 }
 
 // k from the keel index, in thousandths.
@@ -79,12 +79,12 @@ fn factor(c: Loaded, b: u64) -> u64
     rounding::ceil(kx * tables::x2(c.weather.cb), 1000)
 }
 
-// r = 730 + 600 (KG - d)/d, the quotient rounded up, also below zero.
+// r = 730 + 600 (KG - 10 d)/(10 d), the quotient rounded up, also below zero.
 fn height(c: Loaded) -> i64
     requires { ⌜ Fair (loadedOf c) ⌝ }
     ensures { λ r. ⌜ r ≡ rOf (loadedOf c) ⌝ }
 {
-    let d = c.draught as i64;
+    let d = (10 * c.draught) as i64;
     let over = 600 * (c.kg as i64 - d);
     730 + rounding::ceil_signed(over, d)
 }
@@ -100,21 +100,21 @@ fn angle(c: Loaded, b: u64, n: u64) -> u64
     rounding::greatest_square(10_000_000_000_000, product - 1, 599) + 1
 }
 
-// GM, B/d or KG is outside what is judged.
+// GM, B/d or KG is outside what is judged: KG from 7 d to 15 d in tenths.
 fn outside(c: Loaded) -> bool
     requires { ⌜ Fair (loadedOf c) ⌝ }
     ensures { λ r. ⌜ r ≡ outsideRange (loadedOf c) ⌝ }
 {
-    if c.km <= c.kg {
+    if 10 * c.km <= c.kg {
         return true;
     }
     if 35 * c.draught <= 10 * c.ship.breadth {
         return true;
     }
-    if 10 * c.kg < 7 * c.draught {
+    if c.kg < 7 * c.draught {
         return true;
     }
-    15 * c.draught < 10 * c.kg
+    15 * c.draught < c.kg
 }
 
 pub fn rolling(c: Loaded) -> Roll

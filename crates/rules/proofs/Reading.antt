@@ -4,21 +4,23 @@ use mathlib.Core.Path.{_≡_, sym}
 use mathlib.Core.Logic.{_↔_, _≢_}
 use mathlib.Core.List.{List, _∷_, _++_}
 use Prim.Native.Nat.{ℕ, _+_, _*_, _≤_, _<_}
+use native.Mathlib.Omega.{arith}
 use lib.ListN.{length, getD}
 use Rattle.rules.specs.Rounding.{ceil}
 use Rattle.rules.specs.Text.{LF, text, Lines}
 use Rattle.rules.specs.Blocks.{conditionTag, code, timber, Tank, TankKind, ordinary, cargo, tank}
 use Rattle.rules.specs.Layout.{Entries, Reading, frames, spellText, leaves, mostCharacters, Limits, Allowed}
-use Rattle.rules.specs.Outcome.{refused, got, Unread}
+use Rattle.rules.specs.Outcome.{refused, got, _>>=_, Unread}
 use Rattle.rules.specs.Walk.{linesFrom, read}
-use Rattle.rules.specs.Loading.{flat, mass, moment, freeSurfaceOf, freeSurface, displacement, correctedKG, entriesOf}
+use Rattle.rules.specs.Loading.{millimetres, tenths, flat, mass, moment, freeSurfaceOf, freeSurface, displacement, correctedKG, entriesOf}
 use Rattle.rules.specs.Leaves.{sumLeaves, ungrouped, loadedWith}
 use Rattle.rules.specs.Cargo.{MadeCargo, RetaggedLines}
 use Rattle.rules.specs.Timber.{TimberLines, readingBy}
 use Rattle.rules.specs.Mistyped.{Bent, nthRow, Mistyped}
 use Rattle.rules.specs.Places.{LinesFill, SameBefore, lookedAt, LineAt, Placed}
 use Rattle.rules.specs.Met.{Met, Overruns, NoLF, NoLine, FirstNoLine}
-use Rattle.rules.specs.Answer.{judged, answered}
+use Rattle.rules.specs.Answer.{judged, answered, answeredIn}
+use Rattle.rules.specs.Unit.{manifold}
 use Rattle.rules.proofs.walk.WholeText.{sound, unslipped, lines-of-reading, reading-unique}
 use Rattle.rules.proofs.walk.Refusals.{number-of-refusal, not-both, unrefused-iff-allowed}
 use Rattle.rules.proofs.layout.Smooth.{no-slip}
@@ -34,6 +36,8 @@ use Rattle.rules.proofs.walk.FirstFault.{fault-stands}
 use Rattle.rules.proofs.walk.BadLine.{bad-line, open-line, one-no-line, one-too-long, lines-unless-one}
 use Rattle.rules.proofs.layout.LineAt.{line-unique}
 use Rattle.rules.proofs.answer.Placed as places
+use Rattle.rules.proofs.answer.EitherUnit as units
+use Rattle.rules.proofs.answer.WholeKG.{answered-alike}
 
 -- ---- which texts are read
 -- A text gets none of refusals 1 to 6 and 10 exactly when it is allowed.
@@ -65,9 +69,9 @@ inside-parent t r e = (lines-of-reading t r e, reading-fills r (sound t r e .0))
 -- ---- what is summed
 -- The masses, moments and free surface moments that are judged are the sums over the leaves of the one tree, each once, and there are as many as leaves.
 pub counted-once : (r : Reading) → (displacement (entriesOf r) ≡ sumLeaves mass (r .condition .load))
-    × (correctedKG (entriesOf r) ≡ ceil (sumLeaves moment (r .condition .load) + sumLeaves freeSurface (r .condition .load)) (sumLeaves mass (r .condition .load)))
+    × (correctedKG (entriesOf r) ≡ ceil (10 * (sumLeaves moment (r .condition .load) + sumLeaves freeSurface (r .condition .load))) (sumLeaves mass (r .condition .load)))
     × (length (entriesOf r) ≡ leaves (r .condition .load))
-counted-once r = (displacement-leaves (r .condition .load), correctedKG-leaves (r .condition .load), sym (leaves-flat (r .condition .load)))
+counted-once r = (displacement-leaves (r .condition .load), correctedKG-leaves tenths (r .condition .load), sym (leaves-flat (r .condition .load)))
 
 -- Groups carry no meaning of their own: with all of them taken away, the same is judged.
 pub groups-mean-nothing : (r : Reading) → judged (loadedWith r (ungrouped (r .condition .load))) ≡ judged r
@@ -134,6 +138,16 @@ every-weather-timber s r e c = weathers.code-lines s r e c
 pub every-timber-weather : (s : List ℕ) (r : Reading) → read s ≡ got r → r .condition .weather .set ≡ timber
     → TimberLines (frames (readingBy code r)) (frames r) × Lines (frames (readingBy code r)) × (text (frames r) ≡ s) × (length (text (frames (readingBy code r))) ≤ mostCharacters)
 every-timber-weather s r e c = weathers.timber-lines s r e c
+
+-- ---- KG in tenths of a millimetre
+-- KG's unit decides no refusal: a text of one condition is refused exactly when with KG in millimetres it is, with the same number, line and offset. KG is above 600,000 tenths exactly when it is above 60,000 mm.
+pub unit-keeps-refusals : (t : List ℕ) (n l o : ℕ) → (answered t ≡ refused n l o) ↔ (answeredIn millimetres t ≡ refused n l o)
+unit-keeps-refusals = units.answered-refused-alike
+
+-- 'Verdicts for a KG that came out whole stay as they were': a text that is read, with a KG in tenths that is ten times a whole number, has the answer that it has with KG in millimetres, the same refusal or the same eight verdicts, in either set;
+-- the figures of KG, GM, the areas, the lever and the net are ten times those, and the others the same.
+pub whole-kg-keeps-verdicts : (t : List ℕ) (r : Reading) → read t ≡ got r → (j : ℕ) → correctedKG (entriesOf r) ≡ 10 * j → answered t ≡ (answeredIn millimetres t >>= λ J. got (manifold 10 J))
+whole-kg-keeps-verdicts = answered-alike 10 millimetres (omega arith)
 
 -- ---- what is refused
 -- A text of lines within 180,000 characters is refused with 2 at a line and an offset exactly where a block is met there whose length runs past its parent, or one or two bytes where a block would begin.

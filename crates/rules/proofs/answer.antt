@@ -3,3 +3,5 @@ pub mod Steps
 pub mod Length
 pub mod Columns
 pub mod Placed
+pub mod EitherUnit
+pub mod WholeKG

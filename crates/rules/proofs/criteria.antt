@@ -4,3 +4,4 @@ pub mod Verdicts
 pub mod EitherSet
 pub mod Roll
 pub mod Ranges
+pub mod FinerUnit

@@ -5,3 +5,4 @@ pub mod StraightLine
 pub mod Tables
 pub mod Searches
 pub mod Divisions
+pub mod Times

@@ -13,24 +13,30 @@ use Rattle.rules.specs.Layout.{Reading, mostCharacters, conditionLines, 
 use Rattle.rules.specs.Outcome.{Ans, refused, got, test, _>>=_, _>>_}
 use Rattle.rules.specs.Walk.{read}
 use Rattle.rules.specs.Booklet.{counted, countedLines, rowAt, onlyConditions, behindShip, bookFrames, conditionAt}
-use Rattle.rules.specs.Loading.{weighed}
-use Rattle.rules.specs.Curve.{loaded}
+use Rattle.rules.specs.Loading.{tenths, weighedIn}
+use Rattle.rules.specs.Curve.{loadedIn}
 use Rattle.rules.specs.Report.{Judgement, judgement, noJudgement, concat, report, reportLength}
 
 -- A reading is judged, or refused with 7 or 8: on the reading, never on the text.
-unfoldable pub judged : Reading → Ans Judgement
-unfolding weighed loaded judgement _>>=_ _>>_
-judged r = do
-  weighed r
-  got (judgement (loaded r))
+unfoldable pub judgedIn : ℕ → Reading → Ans Judgement
+unfolding weighedIn loadedIn judgement _>>=_ _>>_
+judgedIn unit r = do
+  weighedIn unit r
+  got (judgement (loadedIn unit r))
+
+abbrev pub judged : Reading → Ans Judgement
+judged = judgedIn tenths
 
 -- ---- a text of one condition
 -- The refusals in 01's order: 1 to 6 and 10, then 7, then 8.
-unfoldable pub answered : List ℕ → Ans Judgement
-unfolding read judged _>>=_
-answered t = do
+unfoldable pub answeredIn : ℕ → List ℕ → Ans Judgement
+unfolding read judgedIn _>>=_
+answeredIn unit t = do
   r ← read t
-  judged r
+  judgedIn unit r
+
+abbrev pub answered : List ℕ → Ans Judgement
+answered = answeredIn tenths
 
 abbrev pub numberOf : Ans Judgement → ℕ
 numberOf (refused n l o) = n
@@ -45,7 +51,7 @@ reportOf (got j) = report 0 0 0 j
 -- ---- a booklet
 -- A condition line with the number ln, read and judged with this ship and these rows.
 unfoldable pub answerAt : Ship → List Row → ℕ → List ℕ → Ans Judgement
-unfolding read judged conditionAt _>>=_
+unfolding read judgedIn conditionAt _>>=_
 answerAt s vs ln l = do
   c ← conditionAt ln l
   judged (record { ship = s; rows = vs; condition = c })

@@ -11,7 +11,7 @@ use Rattle.rules.specs.Blocks.{Set, code, timber}
 use Rattle.rules.specs.Curve.{Loaded, y, E, area}
 
 -- 'Each set of criteria has its own limits' (request 2). A set is one value: the limits of 1 to 7, from which angle 4 looks, whether the deck edge counts in 7, and which of the eight slots it uses. The limit of a slot that it does not use is 0.
--- Areas in y units: one metre-degree is 10^11, rounded up from 0.055, 0.03 and 0.09 m·rad, timber's from 0.08.
+-- Areas in y units: one metre-degree is 10^11, rounded up from 0.055, 0.03 and 0.09 m·rad, timber's from 0.08. Areas, levers and GM are those of a KG in millimetres: with KG's unit 'every area, limit and net go up' (request 5), the angles do not.
 pub record Criteria : Type 0 where
   pub area1 : ℕ
   pub area2 : ℕ
@@ -79,19 +79,19 @@ greatestLever c = elim (ltb (E c) (set c .from)) [ true ↦ pos 0 | false ↦ y 
 unfoldable pub angleOfGreatest : Loaded → ℕ
 angleOfGreatest c = peak (λ t. y c (pos t)) 0 (E c)
 
--- 6. 'GM = KM - KG.'
+-- 6. 'GM = KM - KG', in KG's unit.
 abbrev pub gm : Loaded → ℤ
-gm c = subℕ (c .km) (c .kg)
+gm c = subℕ (c .unit * c .km) (c .kg)
 
--- 7. 'lw1 = 5040 x wind area x Z / (981 x W), rounded up, in mm; lw2 = 3 lw1 / 2, rounded up; either becomes y units times 5,000,000.'
+-- 7. 'lw1 = 5040 x wind area x Z / (981 x W), rounded up, in mm; lw2 = 3 lw1 / 2, rounded up; either becomes y units times 5,000,000', and by KG's unit.
 unfoldable pub lw1 : Loaded → ℕ
 lw1 c = ceil (5040 * c .weather .sky .windArea * c .weather .sky .z) (981 * c .w)
 
 unfoldable pub lw2 : Loaded → ℕ
 lw2 c = ceil (3 * lw1 c) 2
 
-abbrev pub units : ℕ → ℤ
-units l = pos (5_000_000 * l)
+abbrev pub units : ℕ → ℕ → ℤ
+units unit l = pos (unit * 5_000_000 * l)
 
 -- The first t from t₀ to e with y at least a level; past e where there is none.
 unfoldable pub reaches : (ℤ → ℤ) → ℤ → ℕ → ℕ → ℕ
@@ -99,7 +99,7 @@ reaches f level t e = firstIn (λ k. leZ level (f (pos k))) t e
 
 -- 'phi0 = first t in 0..E with y >= lw1.' Past E where there is none.
 unfoldable pub phi0 : Loaded → ℕ
-phi0 c = reaches (y c) (units (lw1 c)) 0 (E c)
+phi0 c = reaches (y c) (units (c .unit) (lw1 c)) 0 (E c)
 
 -- 'None: .. phi0 is -1.'
 abbrev pub phi0Figure : Loaded → ℤ
@@ -107,22 +107,22 @@ phi0Figure c = cond (leb (phi0 c) (E c)) (pos (phi0 c)) (negsuc 0)
 
 -- ---- the verdicts
 unfoldable pub passes1 : Loaded → Bool
-passes1 c = leZ (pos (set c .area1)) (area1 c)
+passes1 c = leZ (pos (c .unit * set c .area1)) (area1 c)
 
 unfoldable pub passes2 : Loaded → Bool
-passes2 c = leZ (pos (set c .area2)) (area2 c)
+passes2 c = leZ (pos (c .unit * set c .area2)) (area2 c)
 
 unfoldable pub passes3 : Loaded → Bool
-passes3 c = leZ (pos (set c .area3)) (area3 c)
+passes3 c = leZ (pos (c .unit * set c .area3)) (area3 c)
 
 unfoldable pub passes4 : Loaded → Bool
-passes4 c = leb (set c .from) (E c) && leZ (pos (set c .lever)) (greatestLever c)
+passes4 c = leb (set c .from) (E c) && leZ (pos (c .unit * set c .lever)) (greatestLever c)
 
 unfoldable pub passes5 : Loaded → Bool
 passes5 c = leb (set c .angle) (angleOfGreatest c)
 
 unfoldable pub passes6 : Loaded → Bool
-passes6 c = leZ (pos (set c .gm)) (gm c)
+passes6 c = leZ (pos (c .unit * set c .gm)) (gm c)
 
 -- 'Pass: phi0 <= 160 and 10 phi0 <= 8 x deck edge. None: fail'; timber's 'deck edge ignored'.
 unfoldable pub passes7 : Loaded → Bool

@@ -22,4 +22,5 @@ pub mod Report
 pub mod Columns
 pub mod Timber
 pub mod Answer
+pub mod Unit
 pub mod Ranges

@@ -62,12 +62,22 @@ freeSurface e = freeSurfaceOf (e .kind) (e .values)
 unfoldable pub displacement : List Entry → ℕ
 displacement es = total mass es
 
--- 'KG = (sum of mass x centre + free surface moments) / W, rounded up', of the moments together and W.
-abbrev pub kgBy : ℕ → ℕ → ℕ
-kgBy moments w = ceil moments w
+-- The unit of KG is how many parts of a millimetre it has. 'Carry KG in tenths of a millimetre' (request 5); before that it was carried in millimetres, and every definition that the unit touches has it as an argument, or as a field of the ship that is judged.
+abbrev pub millimetres : ℕ
+millimetres = 1
 
-unfoldable pub correctedKG : List Entry → ℕ
-correctedKG es = kgBy (total moment es + total freeSurface es) (displacement es)
+abbrev pub tenths : ℕ
+tenths = 10
+
+-- 'KG = (sum of mass x centre + free surface moments) / W, rounded up', of the moments together and W, in a unit.
+abbrev pub kgBy : ℕ → ℕ → ℕ → ℕ
+kgBy unit moments w = ceil (unit * moments) w
+
+unfoldable pub correctedKGIn : ℕ → List Entry → ℕ
+correctedKGIn unit es = kgBy unit (total moment es + total freeSurface es) (displacement es)
+
+abbrev pub correctedKG : List Entry → ℕ
+correctedKG = correctedKGIn tenths
 
 -- The W of the first row, and of the last.
 unfoldable pub firstMass : List Row → ℕ
@@ -83,19 +93,22 @@ lastMass (r ∷ s ∷ rs) = lastMass (s ∷ rs)
 unfoldable pub inTable : List Row → ℕ → Bool
 inTable rows w = leb (firstMass rows) w && leb w (lastMass rows)
 
--- 8: 'corrected KG above 60,000'.
+-- 8: 'corrected KG above 60,000', in millimetres; 'now above 600,000' (request 5), in tenths.
 abbrev pub greatestKG : ℕ
 greatestKG = 60_000
 
 abbrev pub entriesOf : Reading → List Entry
 entriesOf r = flat (r .condition .load)
 
--- '.. then 7; then 8.' 'For 7, 8 and 9 both are 0.' Of a table, W and KG.
-unfoldable pub weighedAt : List Row → ℕ → ℕ → Ans (Unit {0})
-weighedAt rows w kg = do
+-- '.. then 7; then 8.' 'For 7, 8 and 9 both are 0.' Of a table, W and a KG in its unit.
+unfoldable pub weighedAt : ℕ → List Row → ℕ → ℕ → Ans (Unit {0})
+weighedAt unit rows w kg = do
   test (inTable rows w) 7 0 0
-  test (leb kg greatestKG) 8 0 0
+  test (leb kg (unit * greatestKG)) 8 0 0
 
-unfoldable pub weighed : Reading → Ans (Unit {0})
-unfolding flat total displacement correctedKG firstMass lastMass inTable weighedAt test _>>=_ _>>_
-weighed r = weighedAt (r .rows) (displacement (entriesOf r)) (correctedKG (entriesOf r))
+unfoldable pub weighedIn : ℕ → Reading → Ans (Unit {0})
+unfolding flat total displacement correctedKGIn firstMass lastMass inTable weighedAt test _>>=_ _>>_
+weighedIn unit r = weighedAt unit (r .rows) (displacement (entriesOf r)) (correctedKGIn unit (entriesOf r))
+
+abbrev pub weighed : Reading → Ans (Unit {0})
+weighed = weighedIn tenths

@@ -27,9 +27,9 @@ q c = 2 * C c * c .ship .breadth / 10 ^ 6
 abbrev pub longestPeriod : ℕ
 longestPeriod = 2000
 
--- 'Period n (0.01 s) = greatest with n² GM <= 10 q²', up to 2,000.
+-- 'Period n (0.01 s) = greatest with n² GM <= 10 q²', up to 2,000; in tenths 'n² GM <= 100 q²' (request 5).
 unfoldable pub period : Loaded → ℕ
-period c = greatest (λ n. leb (n * n * (c .km - c .kg)) (10 * q c * q c)) longestPeriod
+period c = greatest (λ n. leb (n * n * (c .unit * c .km - c .kg)) (c .unit * 10 * q c * q c)) longestPeriod
 
 -- 'Tables linear between points, flat beyond, rounded up.' In thousandths, s in ten-thousandths.
 abbrev pub X1 : List Point
@@ -67,12 +67,12 @@ s c = table up S (period c)
 unfoldable pub p : Loaded → ℕ
 p c = ceil (ceil (k c * x1 c) 1000 * x2 c) 1000
 
--- 'r = 730 + 600 (KG - d)/d, the quotient rounded up, also below zero.'
-unfoldable pub rOf : ℕ → ℕ → ℤ
-rOf kg d = pos 730 +ℤ ceilZ (pos 600 *ℤ subℕ kg d) d
+-- 'r = 730 + 600 (KG - d)/d, the quotient rounded up, also below zero'; d is multiplied by KG's unit: in tenths 'r takes (KG - 10 d)/(10 d)' (request 5).
+unfoldable pub rOf : ℕ → ℕ → ℕ → ℤ
+rOf unit kg d = pos 730 +ℤ ceilZ (pos 600 *ℤ subℕ kg (unit * d)) (unit * d)
 
 abbrev pub r : Loaded → ℤ
-r c = rOf (c .kg) (c .draught)
+r c = rOf (c .unit) (c .kg) (c .draught)
 
 -- No roll that is judged comes near this.
 abbrev pub widestRoll : ℕ
@@ -85,7 +85,7 @@ phi1 c = let product = 1090 * 1090 * p c * p c * natAbs (r c) * s c in first (λ
 -- ---- the gust
 -- 'Start = phi0 if y(phi0) = lw1, else phi0 - 1; less phi1.' At phi0 y is no less than lw1.
 unfoldable pub start : Loaded → ℤ
-start c = elim (leZ (y c (pos (phi0 c))) (units (lw1 c))) [ true ↦ pos (phi0 c) -ℤ pos (phi1 c) | false ↦ pos (phi0 c) -ℤ pos 1 -ℤ pos (phi1 c) ]
+start c = elim (leZ (y c (pos (phi0 c))) (units (c .unit) (lw1 c))) [ true ↦ pos (phi0 c) -ℤ pos (phi1 c) | false ↦ pos (phi0 c) -ℤ pos 1 -ℤ pos (phi1 c) ]
 
 -- 'min(E, 500).'
 abbrev pub farthest : Loaded → ℕ
@@ -93,23 +93,23 @@ farthest c = min (E c) 500
 
 -- 'u = first t from phi0 to min(E, 500) with y >= lw2.' Past it where there is none.
 unfoldable pub u : Loaded → ℕ
-u c = reaches (y c) (units (lw2 c)) (phi0 c) (farthest c)
+u c = reaches (y c) (units (c .unit) (lw2 c)) (phi0 c) (farthest c)
 
 -- 'The last tenth of a degree up to which GZ stays at or above a level from t on, not beyond e': one before the first that is below it.
 unfoldable pub stays : (ℤ → ℤ) → ℤ → ℕ → ℕ → ℕ
 stays f level t e = firstIn (λ k. ltZ (f (pos k)) level) t e - 1
 
 unfoldable pub e : Loaded → ℕ
-e c = stays (y c) (units (lw2 c)) (u c) (farthest c)
+e c = stays (y c) (units (c .unit) (lw2 c)) (u c) (farthest c)
 
 -- 'Net = area start to e, less 2 lw2 (e - start).'
 unfoldable pub net : Loaded → ℤ
-net c = area (y c) (start c) (pos (e c)) -ℤ pos 2 *ℤ units (lw2 c) *ℤ (pos (e c) -ℤ start c)
+net c = area (y c) (start c) (pos (e c)) -ℤ pos 2 *ℤ units (c .unit) (lw2 c) *ℤ (pos (e c) -ℤ start c)
 
 -- ---- the verdict
--- 'GM <= 0, 10 B >= 35 d, KG outside 7d/10..15d/10 (ends judged)'.
+-- 'GM <= 0, 10 B >= 35 d, KG outside 7d/10..15d/10 (ends judged)'; 'the judged range is 7d to 15d in tenths' (request 5).
 unfoldable pub outsideRange : Loaded → Bool
-outsideRange c = leb (c .km) (c .kg) || leb (35 * c .draught) (10 * c .ship .breadth) || ltb (10 * c .kg) (7 * c .draught) || ltb (15 * c .draught) (10 * c .kg)
+outsideRange c = leb (c .unit * c .km) (c .kg) || leb (35 * c .draught) (10 * c .ship .breadth) || ltb (10 * c .kg) (c .unit * 7 * c .draught) || ltb (c .unit * 15 * c .draught) (10 * c .kg)
 
 -- 'Not judged (2) if' so, 'or n >= 2000'.
 unfoldable pub notJudged : Loaded → Bool

@@ -21,7 +21,7 @@ abbrev pub readingBy : Set → Reading → Reading
 readingBy s r = record { ship = r .ship; rows = r .rows; condition = conditionBy s (r .condition) }
 
 abbrev pub loadedBy : Set → Loaded → Loaded
-loadedBy s c = record { ship = c .ship; weather = record { set = s; sky = c .weather .sky }; w = c .w; kg = c .kg; draught = c .draught; km = c .km; kn = c .kn }
+loadedBy s c = record { unit = c .unit; ship = c .ship; weather = record { set = s; sky = c .weather .sky }; w = c .w; kg = c .kg; draught = c .draught; km = c .km; kn = c .kn }
 
 -- 'Slots 1, 2 and 5.'
 pub data UnusedSlot : ℕ → Type 0 where

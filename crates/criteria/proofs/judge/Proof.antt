@@ -34,7 +34,7 @@ chosen : (c : tie.After-of) → c .of .result ≡ criteriaOf (ship (from-areas (
 chosen c = c .of .ensures
 
 drawn : (c : tie.After-areas) → Areas (ship (from-areas c)) (c .areas .result)
-drawn c = areas-held _ _ _ (c .before .before .curve .ensures) (c .areas .ensures)
+drawn c = areas-held _ _ _ _ (c .before .before .curve .ensures) (c .areas .ensures)
 
 abbrev steady-of : tie.After-of-gust → tie.After-steady
 steady-of c = c .before .before .before .before

@@ -6,6 +6,7 @@ use lib.IntN.{ℤ, pos, _-ℤ_, _*ℤ_}
 use mir.Syntax.{w64}
 use mir.Val.{SFits, toZ, ofZ}
 use mir.Facts.{toZ-ofZ, toZ-pos}
+use Rattle.rules.specs.Loading.{tenths}
 use Rattle.rules.specs.Curve.{Loaded, y, area}
 use Rattle.rules.specs.Criteria.{lw2, units}
 use Rattle.rules.specs.Roll.{start, e, net}
@@ -35,27 +36,27 @@ width-fits s = fits _ (omega (arith, width-within _ (s .pre .0)))
 width-is : (s : tie.Start) → toZ w64 (ofZ w64 (toZ w64 (s .args .e) -ℤ toZ w64 (ofZ w64 (s .args .start)))) ≡ pos (e (ship s)) -ℤ start (ship s)
 width-is s = rw (end-is s, start-is s) (toZ-ofZ (width-fits s))
 
-lw2-is : (s : tie.Start) → toZ w64 (ofZ w64 (s .args .lw2)) ≡ units (lw2 (ship s))
+lw2-is : (s : tie.Start) → toZ w64 (ofZ w64 (s .args .lw2)) ≡ units tenths (lw2 (ship s))
 lw2-is s = toZ-ofZ (s .fits .lw2) ∙ s .pre .2
 
-twice-fits : (s : tie.Start) → SFits w64 (pos 2 *ℤ units (lw2 (ship s)))
+twice-fits : (s : tie.Start) → SFits w64 (pos 2 *ℤ units tenths (lw2 (ship s)))
 twice-fits s = record { sfits = omega (arith, lw2-to _ (s .pre .0 .fair)) }
 
-twice-is : (s : tie.Start) → toZ w64 (ofZ w64 (pos 2 *ℤ toZ w64 (ofZ w64 (s .args .lw2)))) ≡ pos 2 *ℤ units (lw2 (ship s))
+twice-is : (s : tie.Start) → toZ w64 (ofZ w64 (pos 2 *ℤ toZ w64 (ofZ w64 (s .args .lw2)))) ≡ pos 2 *ℤ units tenths (lw2 (ship s))
 twice-is s = rw (lw2-is s) (toZ-ofZ (twice-fits s))
 
 -- ---- what is taken away, and what is left
-gust-fits : (s : tie.Start) → SFits w64 (pos 2 *ℤ units (lw2 (ship s)) *ℤ (pos (e (ship s)) -ℤ start (ship s)))
+gust-fits : (s : tie.Start) → SFits w64 (pos 2 *ℤ units tenths (lw2 (ship s)) *ℤ (pos (e (ship s)) -ℤ start (ship s)))
 gust-fits s = fits _ (omega (arith, gust-within _ (s .pre .0)))
 
 gust-is : (s : tie.Start) → toZ w64 (ofZ w64 (toZ w64 (ofZ w64 (pos 2 *ℤ toZ w64 (ofZ w64 (s .args .lw2)))) *ℤ toZ w64 (ofZ w64 (toZ w64 (s .args .e) -ℤ toZ w64 (ofZ w64 (s .args .start))))))
-    ≡ pos 2 *ℤ units (lw2 (ship s)) *ℤ (pos (e (ship s)) -ℤ start (ship s))
+    ≡ pos 2 *ℤ units tenths (lw2 (ship s)) *ℤ (pos (e (ship s)) -ℤ start (ship s))
 gust-is s = rw (twice-is s, width-is s) (toZ-ofZ (gust-fits s))
 
 net-fits : (s : tie.Start) → SFits w64 (net (ship s))
 unfolding net
 net-fits s =
-    fits _ (omega (arith, abs-minus (area (y (ship s)) (start (ship s)) (pos (e (ship s)))) (pos 2 *ℤ units (lw2 (ship s)) *ℤ (pos (e (ship s)) -ℤ start (ship s))), area-within _ (s .pre .0), gust-within _ (s .pre .0)))
+    fits _ (omega (arith, abs-minus (area (y (ship s)) (start (ship s)) (pos (e (ship s)))) (pos 2 *ℤ units tenths (lw2 (ship s)) *ℤ (pos (e (ship s)) -ℤ start (ship s))), area-within _ (s .pre .0), gust-within _ (s .pre .0)))
 
 returns : tie.Need-returns
 unfolding net

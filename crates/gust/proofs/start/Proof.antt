@@ -7,6 +7,7 @@ use lib.ListN.{getD}
 use mir.Syntax.{w64}
 use mir.Val.{SFits, toZ, ofZ}
 use mir.Facts.{toZ-ofZ, toZ-pos}
+use Rattle.rules.specs.Loading.{tenths}
 use Rattle.rules.specs.Curve.{Loaded, leverZ, y}
 use Rattle.rules.specs.Criteria.{lw1, units, phi0}
 use Rattle.rules.specs.Roll.{phi1}
@@ -34,8 +35,8 @@ heel-is s = toZ-pos w64 (omega (arith, phi0-to s)) ∙ ap pos (phi0-is s)
 roll-is : (s : tie.Start) → toZ w64 (ofZ w64 (s .args .roll)) ≡ pos (phi1 (ship s))
 roll-is s = toZ-ofZ (s .fits .roll) ∙ s .pre .3
 
-lw1-is : (s : tie.Start) → toZ w64 (ofZ w64 (s .args .wind .lw1)) ≡ units (lw1 (ship s))
-lw1-is s = ap (λ (w : Wind). toZ w64 (ofZ w64 (w .lw1))) (s .pre .2) ∙ toZ-ofZ (fits (units (lw1 (ship s))) (omega (arith, lw1-to _ (s .pre .0 .fair))))
+lw1-is : (s : tie.Start) → toZ w64 (ofZ w64 (s .args .wind .lw1)) ≡ units tenths (lw1 (ship s))
+lw1-is s = ap (λ (w : Wind). toZ w64 (ofZ w64 (w .lw1))) (s .pre .2) ∙ toZ-ofZ (fits (units tenths (lw1 (ship s))) (omega (arith, lw1-to _ (s .pre .0 .fair))))
 
 y-is : (c : tie.After-if12) → toZ w64 (ofZ w64 (getD (c .before .args .y .now) (c .before .args .wind .phi0) (pos 0))) ≡ y (ship (c .before)) (pos (phi0 (ship (c .before))))
 unfolding leverZ

@@ -9,6 +9,7 @@ use lib.Signed.{leZ}
 use mir.Syntax.{w64}
 use mir.Val.{toZ, ofZ}
 use mir.Facts.{toZ-ofZ}
+use Rattle.rules.specs.Loading.{tenths}
 use Rattle.rules.specs.Curve.{Loaded, E, y}
 use Rattle.rules.specs.Criteria.{lw2, units, reaches, phi0}
 use Rattle.rules.specs.Roll.{phi1, farthest, u, stays, e}
@@ -33,8 +34,8 @@ ship s = loadedOf (s .args .c)
 phi0-is : (s : tie.Start) → s .args .wind .phi0 ≡ phi0 (ship s)
 phi0-is s = ap (λ (w : Wind). w .phi0) (s .pre .4)
 
-lw2-is : (s : tie.Start) → toZ w64 (ofZ w64 (s .args .wind .lw2)) ≡ units (lw2 (ship s))
-lw2-is s = ap (λ (w : Wind). toZ w64 (ofZ w64 (w .lw2))) (s .pre .4) ∙ toZ-ofZ (fits (units (lw2 (ship s))) (omega (arith, lw2-to _ (s .pre .0))))
+lw2-is : (s : tie.Start) → toZ w64 (ofZ w64 (s .args .wind .lw2)) ≡ units tenths (lw2 (ship s))
+lw2-is s = ap (λ (w : Wind). toZ w64 (ofZ w64 (w .lw2))) (s .pre .4) ∙ toZ-ofZ (fits (units tenths (lw2 (ship s))) (omega (arith, lw2-to _ (s .pre .0))))
 
 roll-is : (s : tie.Start) → toZ w64 (ofZ w64 (s .args .roll)) ≡ pos (phi1 (ship s))
 roll-is s = toZ-ofZ (s .fits .roll) ∙ s .pre .5
@@ -44,8 +45,8 @@ unfolding u
 met-at c =
     let s = c .before .before .before .before in
     let f = c .before .farthest .ensures in
-    let same : reaches (held (s .args .y .now)) (toZ w64 (ofZ w64 (s .args .wind .lw2))) (s .args .wind .phi0) (c .before .farthest .result) ≡ reaches (held (s .args .y .now)) (units (lw2 (ship s))) (phi0 (ship s)) (farthest (ship s)) = rw (lw2-is s, phi0-is s, f) in
-    c .reaches .ensures ∙ same ∙ reaches-held (ship s .kn) (ship s .kg) (s .args .y .now) (s .pre .2) (units (lw2 (ship s))) (phi0 (ship s)) (farthest (ship s)) (omega arith)
+    let same : reaches (held (s .args .y .now)) (toZ w64 (ofZ w64 (s .args .wind .lw2))) (s .args .wind .phi0) (c .before .farthest .result) ≡ reaches (held (s .args .y .now)) (units tenths (lw2 (ship s))) (phi0 (ship s)) (farthest (ship s)) = rw (lw2-is s, phi0-is s, f) in
+    c .reaches .ensures ∙ same ∙ reaches-held tenths (ship s .kn) (ship s .kg) (s .args .y .now) (s .pre .2) (units tenths (lw2 (ship s))) (phi0 (ship s)) (farthest (ship s)) (omega arith)
 
 heels : (c : tie.Else1) → phi0 (ship (c .before .before)) ≤ E (ship (c .before .before))
 heels c = omega (arith, phi0-is (c .before .before), c .if1 .left)
@@ -59,8 +60,8 @@ blown c = let s = c .before .before .before .before .before in record { fair = s
 levelled : (c : tie.Else2) → leZ (toZ w64 (ofZ w64 (c .before .before .before .before .before .args .wind .lw2))) (held (c .before .before .before .before .before .args .y .now) (pos (c .before .reaches .result))) ≡ true
 levelled c =
     let s = c .before .before .before .before .before in
-    rw (lw2-is s, met-at (c .before), held-is (ship s .kn) (ship s .kg) (s .args .y .now) (s .pre .2) (u (ship s)) (omega (arith, within c)))
-    (le-true (units (lw2 (ship s))) (y (ship s) (pos (u (ship s)))) (u-is (ship s) .hit (within c)))
+    rw (lw2-is s, met-at (c .before), held-is tenths (ship s .kn) (ship s .kg) (s .args .y .now) (s .pre .2) (u (ship s)) (omega (arith, within c)))
+    (le-true (units tenths (lw2 (ship s))) (y (ship s) (pos (u (ship s)))) (u-is (ship s) .hit (within c)))
 
 ends-at : (c : tie.After-stays) → c .stays .result ≡ e (ship (c .before .before .before .before .before .before))
 unfolding e
@@ -68,8 +69,8 @@ ends-at c =
     let s = c .before .before .before .before .before .before in
     let r = c .before .before in
     let f = r .before .farthest .ensures in
-    let same : stays (held (s .args .y .now)) (toZ w64 (ofZ w64 (s .args .wind .lw2))) (r .reaches .result) (r .before .farthest .result) ≡ stays (held (s .args .y .now)) (units (lw2 (ship s))) (u (ship s)) (farthest (ship s)) = rw (lw2-is s, met-at r, f) in
-    c .stays .ensures ∙ same ∙ stays-held (ship s .kn) (ship s .kg) (s .args .y .now) (s .pre .2) (units (lw2 (ship s))) (u (ship s)) (farthest (ship s)) (omega arith)
+    let same : stays (held (s .args .y .now)) (toZ w64 (ofZ w64 (s .args .wind .lw2))) (r .reaches .result) (r .before .farthest .result) ≡ stays (held (s .args .y .now)) (units tenths (lw2 (ship s))) (u (ship s)) (farthest (ship s)) = rw (lw2-is s, met-at r, f) in
+    c .stays .ensures ∙ same ∙ stays-held tenths (ship s .kn) (ship s .kg) (s .args .y .now) (s .pre .2) (units tenths (lw2 (ship s))) (u (ship s)) (farthest (ship s)) (omega arith)
 
 returns : tie.Need-returns
 returns c = let s = c .before .before in no-heel _ (s .pre .1) (omega (arith, phi0-is s, c .if1 .taken))

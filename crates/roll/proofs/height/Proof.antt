@@ -7,6 +7,7 @@ use lib.Signed.{ltZ-yes}
 use mir.Syntax.{w64}
 use mir.Val.{toZ, ofZ}
 use mir.ValLaws.{toZ-ofZ, toZ-pos}
+use Prim.Native.Nat.{_*_}
 use Rattle.rules.specs.Rounding.{ceilZ}
 use Rattle.book.specs.Book.{loadedOf}
 use Rattle.roll.proofs.Limits.{Sized, sized}
@@ -22,8 +23,11 @@ module _ (s : tie.Start) where
   kg-back : toZ w64 (s .args .c .kg) ≡ pos (s .args .c .kg)
   kg-back = toZ-pos w64 (s .args .c .kg) (omega (arith, size))
 
-  d-back : toZ w64 (s .args .c .draught) ≡ pos (s .args .c .draught)
-  d-back = toZ-pos w64 (s .args .c .draught) (omega (arith, size))
+  d-back : toZ w64 (10 * s .args .c .draught) ≡ pos (10 * s .args .c .draught)
+  d-back = toZ-pos w64 (10 * s .args .c .draught) (omega (arith, size))
+
+mul-d : tie.Need-mul-d
+mul-d c = omega (arith, size (c .before))
 
 cast-d : tie.Need-cast-d
 cast-d c = record { sfits = omega (arith, size (c .before)) }
@@ -38,10 +42,10 @@ mul-over : tie.Need-mul-over
 mul-over c = let s = c .before .before in simp (kg-back s, d-back s, toZ-ofZ w64 _ (over-fits _ (size s))) (times-fits _ (size s))
 
 ceil-signed-requires : tie.Need-ceil-signed-requires
-ceil-signed-requires c κs = let s = c .before .before in rw (d-back s) (ltZ-yes (lt→ltb 0 (s .args .c .draught) (omega (arith, size s))))
+ceil-signed-requires c κs = let s = c .before .before in rw (d-back s) (ltZ-yes (lt→ltb 0 (10 * s .args .c .draught) (omega (arith, size s))))
 
 quotient : (c : tie.After-ceil-signed) → let s = c .before .before .before in
-    toZ w64 (ofZ w64 (c .ceil-signed .result)) ≡ ceilZ (pos 600 *ℤ (pos (s .args .c .kg) -ℤ pos (s .args .c .draught))) (s .args .c .draught)
+    toZ w64 (ofZ w64 (c .ceil-signed .result)) ≡ ceilZ (pos 600 *ℤ (pos (s .args .c .kg) -ℤ pos (10 * s .args .c .draught))) (10 * s .args .c .draught)
 quotient c =
     let s = c .before .before .before in
     toZ-ofZ w64 (c .ceil-signed .result) (record { sfits = c .ceil-signed .ok })
@@ -57,6 +61,7 @@ pub height-spec : {M : Type 1} → statement M
 height-spec =
     tie.close
     (tie.spec
+    mul-d
     cast-d
     cast-over
     sub-over

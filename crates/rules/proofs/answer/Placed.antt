@@ -8,6 +8,7 @@ use native.Mathlib.Omega.{arith}
 use Rattle.rules.specs.Layout.{Reading}
 use Rattle.rules.specs.Outcome.{refused, Unread}
 use Rattle.rules.specs.Places.{LineAt, Placed, tooLong, atLine, emptyText, atByte, atRow, unweighed}
+use Rattle.rules.specs.Loading.{tenths}
 use Rattle.rules.specs.Answer.{judged, answered}
 use Rattle.rules.proofs.walk.Refusals.{Refusal, given, weaker, bind-refusal, test-refusal, last-refusal}
 use Rattle.rules.proofs.walk.PlaceWithin.{read-placed}
@@ -18,7 +19,7 @@ abbrev pub NoPlace : ℕ → ℕ → ℕ → Type 0
 NoPlace n l o = (7 ≤ n) × (n ≤ 8) × (l ≡ 0) × (o ≡ 0)
 
 pub judged-refusal : (r : Reading) → Refusal NoPlace (judged r)
-judged-refusal r = rw (judged-steps r, weighed-steps r) (bind-refusal _ _ (test-refusal _ 7 0 0 _ (omega arith) (last-refusal _ 8 0 0 (omega arith))) (λ u eu. given))
+judged-refusal r = rw (judged-steps tenths r, weighed-steps r) (bind-refusal _ _ (test-refusal _ 7 0 0 _ (omega arith) (last-refusal _ 8 0 0 (omega arith))) (λ u eu. given))
 
 -- Every refusal, that of the reading and 7 and 8.
 pub place-within : (t : List ℕ) (n l o : ℕ) → answered t ≡ refused n l o → Placed t n l o

@@ -8,9 +8,9 @@ use Rattle.rules.specs.Blocks.{Tank, TankKind, ordinary, cargo, item, ta
 use Rattle.rules.specs.Layout.{Entries, end, leaf, group, frames, spellText}
 use Rattle.rules.specs.Outcome.{got}
 use Rattle.rules.specs.Walk.{read}
-use Rattle.rules.specs.Loading.{flat, total, displacement, correctedKG}
+use Rattle.rules.specs.Loading.{flat, total, displacement, correctedKG, correctedKGIn}
 use Rattle.rules.specs.Cargo.{MadeCargo, here, afterEntry, inGroup, RetaggedLines}
-use Rattle.rules.specs.Answer.{answered, reportOf}
+use Rattle.rules.specs.Answer.{answeredIn, reportOf}
 use Rattle.rules.proofs.walk.WholeText.{sound}
 use Rattle.rules.proofs.layout.Retagged.{frames-retagged}
 use Rattle.rules.proofs.bench.Cases.{Case, judges, All, lines, broken}
@@ -32,19 +32,19 @@ unfolding read
 tanker-reads = (refl, refl)
 
 -- As a C3 the tank is forgiven: 2,170 + 3,430 million by 1,400,000 make 4,000 mm. As a C5 it has its 1000 x 800 x 350, which make 200 mm more.
-pub both-KGs : (correctedKG (flat (tankLoad ordinary)) ≡ 4_000) × (correctedKG (flat (tankLoad cargo)) ≡ 4_200)
-unfolding flat total displacement correctedKG
+pub both-KGs : (correctedKG (flat (tankLoad ordinary)) ≡ 40_000) × (correctedKG (flat (tankLoad cargo)) ≡ 42_000)
+unfolding flat total displacement correctedKGIn
 both-KGs = (refl, refl)
 
 -- So as a C3 the report is P1's, with eight passes; as a C5 criteria 1 and 3 fail.
 abbrev pub cargo-output : List ℕ
-cargo-output = broken ("D1006500000000000001000101010101" ∷ "0000000000155CC00000000000001068000000000000012C" ∷ "000000409E418140000000283BD4E5A000000068DA1666E0" ∷ "000000003B9ACA00000000000000012C0000000000000045" ∷ "00000000000000CE00000018BC378BE0" ∷ [])
+cargo-output = broken ("D1006500000000000001000101010101" ∷ "0000000000155CC0000000000000A4100000000000000BB8" ∷ "000002862E8F0C80000001925650F8400000041884E004C0" ∷ "00000002540BE400000000000000012C0000000000000045" ∷ "00000000000000CE000000F75A2B76C0" ∷ [])
 
 abbrev pub planner : List Case
 planner = judges (tanker "C3") P1-output ∷ judges (tanker "C5") cargo-output ∷ []
 
 pub planner-holds : All planner
-unfolding answered reportOf
+unfolding answeredIn reportOf
 planner-holds = (refl, (refl, tt))
 
 -- The two loads, and the two texts' lines, differ in that tank's kind and tag alone; and so do loads with a tank four groups deep.

@@ -6,7 +6,7 @@ use Prim.Native.String.{String}
 use Prim.Native.Nat.{ℕ, _+_, _≤_}
 use native.Mathlib.Omega.{arith}
 use Rattle.rules.specs.Mistyped.{FarOff}
-use Rattle.rules.specs.Answer.{answered, reportOf}
+use Rattle.rules.specs.Answer.{answeredIn, reportOf}
 use Rattle.rules.proofs.layout.Smooth.{by-cases}
 use Rattle.rules.proofs.bench.Cases.{Case, judges, refuses, All, lines, refusal}
 use Rattle.rules.proofs.bench.Bench.{ship, row1, row2, P1-condition, P1-output}
@@ -57,7 +57,7 @@ mistypedRows =
     ∷ []
 
 pub mistyped-hold : All mistypedRows
-unfolding answered reportOf
+unfolding answeredIn reportOf
 mistyped-hold = ((refl, refl), (refl, (refl, (refl, (refl, ((refl, refl), ((refl, refl), (refl, ((refl, refl), ((refl, refl), ((refl, refl), ((refl, refl), ((refl, refl), ((refl, refl), ((refl, refl), tt)))))))))))))))
 
 -- What is far off, restated: by 401 and more at each of 5 to 55 degrees, by 801 and more at 60, either way. Those that are both read are just not.

@@ -8,7 +8,8 @@ use lib.ListN.{length, getD, replicate}
 use Rattle.rules.specs.Rounding.{Point, point}
 use Rattle.rules.specs.Text.{LF, digit}
 use Rattle.rules.specs.Blocks.{Row, code}
-use Rattle.rules.specs.Curve.{knAt, Loaded, loaded, sines, lever, leverZ, y, area}
+use Rattle.rules.specs.Loading.{tenths}
+use Rattle.rules.specs.Curve.{knAt, Loaded, loadedIn, sines, lever, leverZ, y, area}
 use Rattle.rules.specs.Criteria.{area1, area2, area3, greatestLever, angleOfGreatest, gm, lw1, lw2, units, phi0Figure}
 use Rattle.rules.specs.Roll.{b, C, q, period, X1, X2, K, S, keelIndex, farthest, outsideRange, notJudged}
 use Rattle.rules.specs.Report.{fail, pass, unjudged, void, unused, verdictNumber, judgement, reportTag, reportLength}
@@ -43,13 +44,14 @@ abbrev twoRows : List Row
 twoRows = aRow 10 (0 ∷ 1 ∷ 2 ∷ 3 ∷ 4 ∷ 5 ∷ 6 ∷ 7 ∷ 8 ∷ 9 ∷ 10 ∷ 11 ∷ 12 ∷ []) ∷ aRow 20 (0 ∷ 2 ∷ 5 ∷ 8 ∷ 11 ∷ 14 ∷ 17 ∷ 20 ∷ 23 ∷ 26 ∷ 29 ∷ 32 ∷ 35 ∷ []) ∷ []
 
 pub stations-printed : (knAt twoRows 10 ≡ 0 ∷ 1 ∷ 2 ∷ 3 ∷ 4 ∷ 5 ∷ 6 ∷ 7 ∷ 8 ∷ 9 ∷ 10 ∷ 11 ∷ 12 ∷ []) × (knAt twoRows 15 ≡ 0 ∷ 1 ∷ 3 ∷ 5 ∷ 7 ∷ 9 ∷ 11 ∷ 13 ∷ 15 ∷ 17 ∷ 19 ∷ 21 ∷ 23 ∷ [])
-unfolding loaded
+unfolding loadedIn
 stations-printed = (refl, refl)
 
 -- ---- worked values
--- A ship of which only what is asked matters: L, B, d, KM, KG, the KN values and E.
+-- A ship of which only what is asked matters: L, B, d, KM, KG in tenths, the KN values and E.
 abbrev afloat : (L B d km kg : ℕ) → List ℕ → (flooding : ℕ) → Loaded
 afloat L B d km kg kn flooding = record {
+  unit = tenths;
   ship = record { hullLength = L; breadth = B; keelArea = 0; bilge = 0 };
   weather = record { set = code; sky = record { windArea = 981; z = 100_000; cb = 700; flooding = flooding; deckEdge = 200 } };
   w = 5_040;
@@ -71,21 +73,21 @@ falling = 13 ∷ 12 ∷ 11 ∷ 10 ∷ 9 ∷ 8 ∷ 7 ∷ 6 ∷ 5 ∷ 4 ∷ 3 ∷ 
 
 abbrev pub page : List Case
 page =
-    -- 'g at a station = 100,000 x KN - KG x sine', y '50 times the straight-line value': a millimetre at 5 degrees is 5,000,000; a KG of one takes 50 sines; half way and one tenth past a station.
-    gives (lever (0 ∷ 1 ∷ []) 0 50 ∷ lever [] 1 50 ∷ lever (0 ∷ 2 ∷ []) 0 25 ∷ lever (0 ∷ 0 ∷ 3 ∷ []) 0 51 ∷ []) (pos 5_000_000 ∷ negℤ (pos 435_800) ∷ pos 5_000_000 ∷ pos 300_000 ∷ [])
-    -- 'y(-t) = -y(t).' 'Either becomes y units times 5,000,000.'
-    ∷ gives (leverZ (0 ∷ 1 ∷ []) 0 (negℤ (pos 50)) ∷ units 1 ∷ []) (negℤ (pos 5_000_000) ∷ pos 5_000_000 ∷ [])
-    -- 'One metre-degree is 10^11'; 'area .. 0 if q <= p'.
-    ∷ gives (area (y (curved level 600)) (pos 50) (pos 60) ∷ area (y (curved level 600)) (pos 60) (pos 50) ∷ []) (pos (10 ^ 11) ∷ pos 0 ∷ [])
+    -- 'g at a station = 100,000 x KN - KG x sine', y '50 times the straight-line value', 'tenfold' (request 5): a millimetre of KN at 5 degrees is 50,000,000; a KG of one tenth takes 50 sines; half way and one tenth past a station.
+    gives (lever tenths (0 ∷ 1 ∷ []) 0 50 ∷ lever tenths [] 1 50 ∷ lever tenths (0 ∷ 2 ∷ []) 0 25 ∷ lever tenths (0 ∷ 0 ∷ 3 ∷ []) 0 51 ∷ []) (pos 50_000_000 ∷ negℤ (pos 435_800) ∷ pos 50_000_000 ∷ pos 3_000_000 ∷ [])
+    -- 'y(-t) = -y(t).' 'Either becomes y units times 5,000,000', tenfold.
+    ∷ gives (leverZ tenths (0 ∷ 1 ∷ []) 0 (negℤ (pos 50)) ∷ units tenths 1 ∷ []) (negℤ (pos 50_000_000) ∷ pos 50_000_000 ∷ [])
+    -- 'One metre-degree is 10^11', tenfold; 'area .. 0 if q <= p'.
+    ∷ gives (area (y (curved level 600)) (pos 50) (pos 60) ∷ area (y (curved level 600)) (pos 60) (pos 50) ∷ []) (pos (10 ^ 12) ∷ pos 0 ∷ [])
     -- Areas 0 to min(300, E), 300 to min(400, E), 0 to min(400, E), at E = 600, 399, 300 and 299.
-    ∷ gives (map (λ f. area1 (curved level f)) (600 ∷ 399 ∷ 300 ∷ 299 ∷ [])) (pos 2_750_000_000_000 ∷ pos 2_750_000_000_000 ∷ pos 2_750_000_000_000 ∷ pos 2_740_000_000_000 ∷ [])
-    ∷ gives (map (λ f. area2 (curved level f)) (600 ∷ 399 ∷ 300 ∷ 299 ∷ [])) (pos 1_000_000_000_000 ∷ pos 990_000_000_000 ∷ pos 0 ∷ pos 0 ∷ [])
-    ∷ gives (map (λ f. area3 (curved level f)) (600 ∷ 399 ∷ 300 ∷ 299 ∷ [])) (pos 3_750_000_000_000 ∷ pos 3_740_000_000_000 ∷ pos 2_750_000_000_000 ∷ pos 2_740_000_000_000 ∷ [])
+    ∷ gives (map (λ f. area1 (curved level f)) (600 ∷ 399 ∷ 300 ∷ 299 ∷ [])) (pos 27_500_000_000_000 ∷ pos 27_500_000_000_000 ∷ pos 27_500_000_000_000 ∷ pos 27_400_000_000_000 ∷ [])
+    ∷ gives (map (λ f. area2 (curved level f)) (600 ∷ 399 ∷ 300 ∷ 299 ∷ [])) (pos 10_000_000_000_000 ∷ pos 9_900_000_000_000 ∷ pos 0 ∷ pos 0 ∷ [])
+    ∷ gives (map (λ f. area3 (curved level f)) (600 ∷ 399 ∷ 300 ∷ 299 ∷ [])) (pos 37_500_000_000_000 ∷ pos 37_400_000_000_000 ∷ pos 27_500_000_000_000 ∷ pos 27_400_000_000_000 ∷ [])
     -- 'Greatest y from 300 to E .. If E < 300: .. figure 0.' 'The first t in 0..E with the greatest y.'
-    ∷ gives (map (λ f. greatestLever (curved falling f)) (600 ∷ 300 ∷ 299 ∷ [])) (pos 35_000_000 ∷ pos 35_000_000 ∷ pos 0 ∷ [])
+    ∷ gives (map (λ f. greatestLever (curved falling f)) (600 ∷ 300 ∷ 299 ∷ [])) (pos 350_000_000 ∷ pos 350_000_000 ∷ pos 0 ∷ [])
     ∷ gives (map (λ kn. pos (angleOfGreatest (curved kn 60))) (falling ∷ level ∷ (0 ∷ 1 ∷ 2 ∷ []) ∷ [])) (pos 0 ∷ pos 50 ∷ pos 60 ∷ [])
-    -- 'GM = KM - KG', below zero too.
-    ∷ gives (gm (afloat 0 1 1 7 3 [] 0) ∷ gm (afloat 0 1 1 3 7 [] 0) ∷ []) (pos 4 ∷ negℤ (pos 4) ∷ [])
+    -- 'GM = KM - KG', KM tenfold, below zero too.
+    ∷ gives (gm (afloat 0 1 1 7 66 [] 0) ∷ gm (afloat 0 1 1 7 74 [] 0) ∷ []) (pos 4 ∷ negℤ (pos 4) ∷ [])
     -- 'lw1 = 5040 x wind area x Z / (981 x W) .. lw2 = 3 lw1 / 2': of 981, 100,000 and 5,040.
     ∷ gives (pos (lw1 (curved [] 0)) ∷ pos (lw2 (curved [] 0)) ∷ []) (pos 100_000 ∷ pos 150_000 ∷ [])
     -- 'phi0 = first t in 0..E with y >= lw1 .. None: .. phi0 is -1': a lever of 100 m from 5 degrees on, E there, one tenth before, and a lever of one metre.
@@ -93,9 +95,9 @@ page =
     -- 'b = 1000 B/d, down. C = 373,000 + 23 b - (43 L/100, up)': B/d of 1/1000 at L 100 and 101.
     ∷ gives (map (λ L. pos (C (afloat L 1 1_000 0 0 [] 0))) (100 ∷ 101 ∷ [])) (pos 372_980 ∷ pos 372_979 ∷ [])
     ∷ gives (pos (b (afloat 0 10_001 10_000 0 0 [] 0)) ∷ []) (pos 1_000 ∷ [])
-    -- 'q = 2 C B / 10^6, down. Period n = greatest with n² GM <= 10 q²': with C 400,000 and 399,999, and a GM of 10, the period is q.
+    -- 'q = 2 C B / 10^6, down. Period n = greatest with n² GM <= 100 q²' (request 5): with C 400,000 and 399,999, and a GM of 100 tenths, the period is q.
     ∷ gives (map (λ L. pos (q (afloat L 2_500 2_000 0 0 [] 0))) (4_069 ∷ 4_071 ∷ [])) (pos 2_000 ∷ pos 1_999 ∷ [])
-    ∷ gives (pos (period (afloat 4_071 2_500 2_000 2_010 2_000 [] 0)) ∷ []) (pos 1_999 ∷ [])
+    ∷ gives (pos (period (afloat 4_071 2_500 2_000 2_010 20_000 [] 0)) ∷ []) (pos 1_999 ∷ [])
     -- 'The keel index .. 10^9 x area / (L B)': 100 m², 100 m and 10 m, and one over.
     ∷ gives (pos (keelIndex (record { hullLength = 100_000; breadth = 10_000; keelArea = 10_000; bilge = 0 })) ∷ pos (keelIndex (record { hullLength = 100_001; breadth = 10_000; keelArea = 10_000; bilge = 0 })) ∷ []) (pos 10_000 ∷ pos 9_999 ∷ [])
     -- 'min(E, 500).'
@@ -106,13 +108,13 @@ pub page-holds : All page
 unfolding judgement
 page-holds = (refl, (refl, (refl, (refl, (refl, (refl, (refl, (refl, (refl, (refl, (refl, (refl, (refl, (refl, (refl, (refl, (refl, tt)))))))))))))))))
 
--- 'Not judged (2) if GM <= 0, 10 B >= 35 d, KG outside 7d/10..15d/10 (ends judged), or n >= 2000': each at its edge.
-pub range-printed : map (λ c. outsideRange c) (afloat 0 1 1_000 1_000 1_000 [] 0 ∷ afloat 0 1 1_000 1_001 1_000 [] 0 ∷ afloat 0 3_500 1_000 1_001 1_000 [] 0 ∷ afloat 0 3_499 1_000 1_001 1_000 [] 0
-    ∷ afloat 0 1 1_000 700 699 [] 0 ∷ afloat 0 1 1_000 701 700 [] 0 ∷ afloat 0 1 1_000 1_501 1_500 [] 0 ∷ afloat 0 1 1_000 1_502 1_501 [] 0 ∷ [])
+-- 'Not judged (2) if GM <= 0, 10 B >= 35 d', KG outside '7d to 15d in tenths' (request 5) '(ends judged), or n >= 2000': each at its edge.
+pub range-printed : map (λ c. outsideRange c) (afloat 0 1 1_000 1_000 10_000 [] 0 ∷ afloat 0 1 1_000 1_000 9_999 [] 0 ∷ afloat 0 3_500 1_000 1_000 9_999 [] 0 ∷ afloat 0 3_499 1_000 1_000 9_999 [] 0
+    ∷ afloat 0 1 1_000 1_000 6_999 [] 0 ∷ afloat 0 1 1_000 1_000 7_000 [] 0 ∷ afloat 0 1 1_000 2_000 15_000 [] 0 ∷ afloat 0 1 1_000 2_000 15_001 [] 0 ∷ [])
     ≡ true ∷ false ∷ true ∷ false ∷ true ∷ false ∷ false ∷ true ∷ []
 unfolding outsideRange
 range-printed = refl
 
-pub period-printed : (notJudged (afloat 4_069 2_500 2_000 2_010 2_000 [] 0) ≡ true) × (notJudged (afloat 4_071 2_500 2_000 2_010 2_000 [] 0) ≡ false)
+pub period-printed : (notJudged (afloat 4_069 2_500 2_000 2_010 20_000 [] 0) ≡ true) × (notJudged (afloat 4_071 2_500 2_000 2_010 20_000 [] 0) ≡ false)
 unfolding judgement
 period-printed = (refl, refl)

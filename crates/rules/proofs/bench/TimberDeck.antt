@@ -3,7 +3,7 @@ use mathlib.Core.Path.{refl}
 use mathlib.Core.List.{List, [], _∷_, _++_}
 use Prim.Native.String.{String}
 use Prim.Native.Nat.{ℕ}
-use Rattle.rules.specs.Answer.{answered, reportOf}
+use Rattle.rules.specs.Answer.{answeredIn, reportOf}
 use Rattle.rules.proofs.bench.Cases.{Case, judges, refuses, All, lines, broken, refusal}
 use Rattle.rules.proofs.bench.Bench.{ship, row1, row2, with}
 
@@ -24,11 +24,11 @@ coaster tag = condition tag "000C000001F40FA002BC012B0001C2000600155CC00F3C"
 
 -- P1 as timber: the figures are P1's; 1, 2 and 5 read 4 and the others pass.
 abbrev pub P1-timber-output : List ℕ
-P1-timber-output = broken ("D1006500000000000404010104010101" ∷ "0000000000155CC00000000000000FA000000000000001F4" ∷ "000000645737BC0000000042E46A1900000000A73BA1D500" ∷ "0000000059682F00000000000000012C000000000000002A" ∷ "00000000000000EF000000478E8D8F80" ∷ [])
+P1-timber-output = broken ("D1006500000000000404010104010101" ∷ "0000000000155CC00000000000009C400000000000001388" ∷ "000003EB682D58000000029CEC24FA000000068854525200" ∷ "000000037E11D600000000000000012C000000000000002A" ∷ "00000000000000EF000002CB91879B00" ∷ [])
 
 -- By the Code all eight pass; as timber slot 4 fails, 1,247,500,000 being less than 1,250,000,000.
 abbrev tender-figures : String → List ℕ
-tender-figures verdicts = broken ("D100650000000000" ∷ verdicts ∷ "0000000000155CC00000000000001005000000000000018F" ∷ "000000524D031188000000356E00080400000087BB03198C" ∷ "000000004A5B56E0000000000000012C0000000000000035" ∷ "00000000000000E10000002C9AA71777" ∷ [])
+tender-figures verdicts = broken ("D100650000000000" ∷ verdicts ∷ "0000000000155CC0000000000000A0320000000000000F96" ∷ "00000337021EAF50000002164C0050280000054D4E1EFF78" ∷ "00000002E79164C0000000000000012C0000000000000035" ∷ "00000000000000E1000001BE0A86EAA6" ∷ [])
 
 abbrev pub tender-output : List ℕ
 tender-output = tender-figures "0101010101010101"
@@ -38,13 +38,13 @@ tender-timber-output = tender-figures "0404010004010101"
 
 -- By the Code 2, 3, 4 and 7 fail, with no figure in slot 4; as timber all that are used pass, with the lever at 29.9° in slot 4.
 abbrev coaster-figures : String → String → List ℕ
-coaster-figures verdicts lever = broken ("D100650000000000" ∷ verdicts ∷ "0000000000155CC00000000000000F3C0000000000000258" ∷ "00000075637D2E08000000000000000000000075637D2E08" ∷ lever ∷ "000000000000012B0000000000000008" ∷ "00000000000000F80000001AB047F638" ∷ [])
+coaster-figures verdicts lever = broken ("D100650000000000" ∷ verdicts ∷ "0000000000155CC000000000000098580000000000001770" ∷ "00000495E2E3CC50000000000000000000000495E2E3CC50" ∷ lever ∷ "000000000000012B0000000000000008" ∷ "00000000000000F80000010AE2CF9E30" ∷ [])
 
 abbrev pub coaster-output : List ℕ
 coaster-output = coaster-figures "0100000001010001" "0000000000000000"
 
 abbrev pub coaster-timber-output : List ℕ
-coaster-timber-output = coaster-figures "0404010104010101" "0000000067E6C9D8"
+coaster-timber-output = coaster-figures "0404010104010101" "000000040F03E270"
 
 -- 'May stand in C1's place': not behind a C1, nor a C1 behind it. 'Tested as C1': another length, a deck edge of 0, no entry behind it.
 abbrev pub timbers : List Case
@@ -60,5 +60,5 @@ timbers =
     ∷ []
 
 pub timbers-hold : All timbers
-unfolding answered reportOf
+unfolding answeredIn reportOf
 timbers-hold = (refl, (refl, (refl, (refl, (refl, ((refl, refl), ((refl, refl), ((refl, refl), ((refl, refl), ((refl, refl), tt))))))))))

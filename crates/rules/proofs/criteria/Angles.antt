@@ -46,9 +46,9 @@ pub timber-lever : (c : Loaded) → c .weather .set ≡ timber → greatestLever
 timber-lever c s = lever-at-angle c (let zero : set c .from ≡ 0 = rw s in omega arith)
 
 -- 'phi0 = first t in 0..E with y >= lw1.'
-pub phi0-is : (c : Loaded) → Reaches (y c) (units (lw1 c)) 0 (E c) (phi0 c)
+pub phi0-is : (c : Loaded) → Reaches (y c) (units (c .unit) (lw1 c)) 0 (E c) (phi0 c)
 unfolding phi0
-phi0-is c = reaches-is (y c) (units (lw1 c)) 0 (E c)
+phi0-is c = reaches-is (y c) (units (c .unit) (lw1 c)) 0 (E c)
 
 module _ (a b v w : ℤ) where
   at-level : a ≡ b → elim (leZ a b) [ true ↦ v | false ↦ w ] ≡ v
@@ -66,18 +66,18 @@ module _ (a b v w : ℤ) where
       go false e = refl
 
 -- 'Start = phi0 if y(phi0) = lw1, else phi0 - 1; less phi1.'
-pub start-before : (c : Loaded) → phi0 c ≤ E c → (y c (pos (phi0 c)) ≡ units (lw1 c) → ⊥) → start c ≡ pos (phi0 c) -ℤ pos 1 -ℤ pos (phi1 c)
+pub start-before : (c : Loaded) → phi0 c ≤ E c → (y c (pos (phi0 c)) ≡ units (c .unit) (lw1 c) → ⊥) → start c ≡ pos (phi0 c) -ℤ pos 1 -ℤ pos (phi1 c)
 unfolding start
-start-before c h n = above-level (y c (pos (phi0 c))) (units (lw1 c)) (pos (phi0 c) -ℤ pos (phi1 c)) (pos (phi0 c) -ℤ pos 1 -ℤ pos (phi1 c)) (phi0-is c .hit h) n
+start-before c h n = above-level (y c (pos (phi0 c))) (units (c .unit) (lw1 c)) (pos (phi0 c) -ℤ pos (phi1 c)) (pos (phi0 c) -ℤ pos 1 -ℤ pos (phi1 c)) (phi0-is c .hit h) n
 
-pub start-at : (c : Loaded) → y c (pos (phi0 c)) ≡ units (lw1 c) → start c ≡ pos (phi0 c) -ℤ pos (phi1 c)
+pub start-at : (c : Loaded) → y c (pos (phi0 c)) ≡ units (c .unit) (lw1 c) → start c ≡ pos (phi0 c) -ℤ pos (phi1 c)
 unfolding start
-start-at c h = at-level (y c (pos (phi0 c))) (units (lw1 c)) (pos (phi0 c) -ℤ pos (phi1 c)) (pos (phi0 c) -ℤ pos 1 -ℤ pos (phi1 c)) h
+start-at c h = at-level (y c (pos (phi0 c))) (units (c .unit) (lw1 c)) (pos (phi0 c) -ℤ pos (phi1 c)) (pos (phi0 c) -ℤ pos 1 -ℤ pos (phi1 c)) h
 
 -- 'u = first t from phi0 to min(E, 500) with y >= lw2.'
-pub u-is : (c : Loaded) → Reaches (y c) (units (lw2 c)) (phi0 c) (farthest c) (u c)
+pub u-is : (c : Loaded) → Reaches (y c) (units (c .unit) (lw2 c)) (phi0 c) (farthest c) (u c)
 unfolding u
-u-is c = reaches-is (y c) (units (lw2 c)) (phi0 c) (farthest c)
+u-is c = reaches-is (y c) (units (c .unit) (lw2 c)) (phi0 c) (farthest c)
 
 -- Where there is a gust to judge, phi0 is within the curve and u within reach.
 pub gust : (c : Loaded) → noGust c ≡ false → (phi0 c ≤ E c) × (u c ≤ farthest c)
@@ -87,6 +87,6 @@ gust c h =
     (ltb-false (E c) (phi0 c) (n .0), ltb-false (farthest c) (u c) (n .1))
 
 -- 'e = the last tenth of a degree up to which GZ stays at or above lw2 from u on, not beyond min(E, 500).'
-pub e-is : (c : Loaded) → noGust c ≡ false → Stays (y c) (units (lw2 c)) (u c) (farthest c) (e c)
+pub e-is : (c : Loaded) → noGust c ≡ false → Stays (y c) (units (c .unit) (lw2 c)) (u c) (farthest c) (e c)
 unfolding e
-e-is c h = stays-is (y c) (units (lw2 c)) (u c) (farthest c) (gust c h .1) (u-is c .hit (gust c h .1))
+e-is c h = stays-is (y c) (units (c .unit) (lw2 c)) (u c) (farthest c) (gust c h .1) (u-is c .hit (gust c h .1))

@@ -5,9 +5,11 @@ use mathlib.Core.Bool.{Bool, true, false, not, _&&_, _||_}
 use mathlib.Core.List.{List, [], _∷_, _++_}
 use Prim.Native.Nat.{ℕ, zero, suc, _-_, _*_, _≤_, _<_}
 use native.Mathlib.Omega.{arith}
+use native.Mathlib.Nat.{mul-le-mul-left}
 use lib.Dec.{leb}
 use lib.ListN.{length, getD, getD-replicate}
 use lib.IntN.{ℤ, pos}
+use lib.Signed.{leZ}
 use borrow.Author.Tests.{leb-true, le-leb}
 use Rattle.rules.specs.Blocks.{Set, code, timber}
 use Rattle.rules.specs.Curve.{Loaded, E}
@@ -133,13 +135,16 @@ unused-iff c i h = (λ r. left-out (c .weather .set) i h (read-unused c i h r), 
 -- ---- passes by the Code
 -- Where one set asks no more than another of 3, of 6 or of 7, a pass by the other is a pass by it. Over any two sets.
 module _ (s s′ : Set) (c : Loaded) where
+  eased : (l l′ : ℕ) (z : ℤ) → l′ ≤ l → leZ (pos (c .unit * l)) z ≡ true → leZ (pos (c .unit * l′)) z ≡ true
+  eased l l′ z h p = le-true (pos (c .unit * l′)) z (omega (arith, mul-le-mul-left (c .unit) h, at-least (pos (c .unit * l)) z p))
+
   pub eased3 : limitsOf s′ .area3 ≤ limitsOf s .area3 → passes3 (loadedBy s c) ≡ true → passes3 (loadedBy s′ c) ≡ true
   unfolding passes3 area3
-  eased3 h p = le-true (pos (limitsOf s′ .area3)) (area3 c) (omega (arith, at-least (pos (limitsOf s .area3)) (area3 c) p))
+  eased3 h p = eased (limitsOf s .area3) (limitsOf s′ .area3) (area3 c) h p
 
   pub eased6 : limitsOf s′ .gm ≤ limitsOf s .gm → passes6 (loadedBy s c) ≡ true → passes6 (loadedBy s′ c) ≡ true
   unfolding passes6
-  eased6 h p = le-true (pos (limitsOf s′ .gm)) (gm c) (omega (arith, at-least (pos (limitsOf s .gm)) (gm c) p))
+  eased6 h p = eased (limitsOf s .gm) (limitsOf s′ .gm) (gm c) h p
 
   pub eased7 : limitsOf s .heel ≤ limitsOf s′ .heel → (limitsOf s′ .deck ≡ true → limitsOf s .deck ≡ true) → passes7 (loadedBy s c) ≡ true → passes7 (loadedBy s′ c) ≡ true
   unfolding passes7 phi0 lw1

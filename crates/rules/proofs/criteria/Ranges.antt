@@ -1,9 +1,9 @@
 -- How far the numbers of criterion 8 reach where it is judged.
 use mathlib.Core.Path.{_≡_, refl}
 use mathlib.Core.Bool.{Bool, true, false, _||_}
-use Prim.Native.Nat.{ℕ, _+_, _*_, _^_, _≤_, _<_}
+use Prim.Native.Nat.{ℕ, zero, suc, _+_, _*_, _^_, _≤_, _<_}
 use native.Mathlib.Omega.{arith}
-use native.Mathlib.Nat.{mul-le-mul, mul-le-mul-left, div-lt-iff-lt-mul}
+use native.Mathlib.Nat.{mul-pos, mul-le-mul, mul-le-mul-left, div-lt-iff-lt-mul}
 use native.Mathlib.Decide.{decLe}
 use lib.Dec.{leb, ltb, eqb}
 use lib.IntN.{ℤ, pos, negℤ, negsuc, subℕ, natAbs, _+ℤ_, _*ℤ_}
@@ -50,10 +50,10 @@ p-from c =
 
 -- ---- where it is judged
 pub record Judged (c : Loaded) : Type 0 where
-  pub gm : c .kg < c .km
+  pub gm : c .kg < c .unit * c .km
   pub beam : 10 * c .ship .breadth < 35 * c .draught
-  pub kgFrom : 7 * c .draught ≤ 10 * c .kg
-  pub kgTo : 10 * c .kg ≤ 15 * c .draught
+  pub kgFrom : c .unit * 7 * c .draught ≤ 10 * c .kg
+  pub kgTo : 10 * c .kg ≤ c .unit * 15 * c .draught
   pub swift : period c < 2_000
 
 pub neither : (a b : Bool) → a || b ≡ false → (a ≡ false) × (b ≡ false)
@@ -63,12 +63,12 @@ neither false b e = (refl, e)
 pub judged : (c : Loaded) → notJudged c ≡ false → Judged c
 unfolding notJudged outsideRange
 judged c h =
-    let n = none (leb (c .km) (c .kg)) (leb (35 * c .draught) (10 * c .ship .breadth)) (ltb (10 * c .kg) (7 * c .draught)) (ltb (15 * c .draught) (10 * c .kg)) (leb longestPeriod (period c)) h in
+    let n = none (leb (c .unit * c .km) (c .kg)) (leb (35 * c .draught) (10 * c .ship .breadth)) (ltb (10 * c .kg) (c .unit * 7 * c .draught)) (ltb (c .unit * 15 * c .draught) (10 * c .kg)) (leb longestPeriod (period c)) h in
     record {
-      gm = leb-false (c .km) (c .kg) (n .0);
+      gm = leb-false (c .unit * c .km) (c .kg) (n .0);
       beam = leb-false (35 * c .draught) (10 * c .ship .breadth) (n .1);
-      kgFrom = ltb-false (10 * c .kg) (7 * c .draught) (n .2);
-      kgTo = ltb-false (15 * c .draught) (10 * c .kg) (n .3);
+      kgFrom = ltb-false (10 * c .kg) (c .unit * 7 * c .draught) (n .2);
+      kgTo = ltb-false (c .unit * 15 * c .draught) (10 * c .kg) (n .3);
       swift = leb-false longestPeriod (period c) (n .4);
     }
   where
@@ -84,18 +84,29 @@ module _ (c : Loaded) (j : Judged c) where
   draught-pos : 0 < c .draught
   draught-pos = omega arith
 
+  -- The draught, in KG's unit; a KG below KM has one.
+  abbrev pub deep : ℕ
+  deep = c .unit * c .draught
+
+  pub deep-pos : 0 < deep
+  deep-pos = go (c .unit) (j .gm)
+    where
+      go : (m : ℕ) → c .kg < m * c .km → 0 < m * c .draught
+      go zero h = absurd (omega arith)
+      go (suc m) h = mul-pos (omega arith) draught-pos
+
   -- 'The quotient rounded up, also below zero' is from -180 to 300.
   abbrev quotient : ℤ
-  quotient = ceilZ (pos 600 *ℤ subℕ (c .kg) (c .draught)) (c .draught)
+  quotient = ceilZ (pos 600 *ℤ subℕ (c .kg) deep) deep
 
-  quotient-is : CeilingZ (pos 600 *ℤ subℕ (c .kg) (c .draught)) (c .draught) quotient
-  quotient-is = ceilZ-is (pos 600 *ℤ subℕ (c .kg) (c .draught)) (c .draught) draught-pos
+  quotient-is : CeilingZ (pos 600 *ℤ subℕ (c .kg) deep) deep quotient
+  quotient-is = ceilZ-is (pos 600 *ℤ subℕ (c .kg) deep) deep deep-pos
 
   quotient-from : Le (negℤ (pos 180)) quotient
-  quotient-from = ceilingZ-from quotient-is draught-pos (negℤ (pos 180)) (omega (arith, up-neg (pos (180 * c .draught)), dn-neg (pos (180 * c .draught)), up-mull 600 (subℕ (c .kg) (c .draught)), dn-mull 600 (subℕ (c .kg) (c .draught)), sub≡ (c .kg) (c .draught)))
+  quotient-from = ceilingZ-from quotient-is deep-pos (negℤ (pos 180)) (omega (arith, up-neg (pos (180 * deep)), dn-neg (pos (180 * deep)), up-mull 600 (subℕ (c .kg) deep), dn-mull 600 (subℕ (c .kg) deep), sub≡ (c .kg) deep))
 
   quotient-to : Le quotient (pos 300)
-  quotient-to = ceilingZ-least quotient-is (pos 300) (omega (arith, up-mull 600 (subℕ (c .kg) (c .draught)), dn-mull 600 (subℕ (c .kg) (c .draught)), sub≡ (c .kg) (c .draught)))
+  quotient-to = ceilingZ-least quotient-is (pos 300) (omega (arith, up-mull 600 (subℕ (c .kg) deep), dn-mull 600 (subℕ (c .kg) deep), sub≡ (c .kg) deep))
 
   -- So r is above zero.
   pub r-range : (r c ≡ pos (natAbs (r c))) × (550 ≤ natAbs (r c)) × (natAbs (r c) ≤ 1030)

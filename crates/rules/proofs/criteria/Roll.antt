@@ -13,7 +13,7 @@ use Rattle.rules.proofs.rounding.Searches.{Greatest, greatest-is, First
 
 -- ---- 'Period n = greatest with n² GM <= 10 q²'
 abbrev pub Fits : Loaded → ℕ → Type 0
-Fits c n = n * n * (c .km - c .kg) ≤ 10 * q c * q c
+Fits c n = n * n * (c .unit * c .km - c .kg) ≤ c .unit * 10 * q c * q c
 
 pub record Period (c : Loaded) (n : ℕ) : Type 0 where
   pub hit : Fits c n
@@ -22,14 +22,14 @@ pub record Period (c : Loaded) (n : ℕ) : Type 0 where
 module _ (c : Loaded) where
   -- What is asked of a period falls with it.
   shorter : (m n : ℕ) → m ≤ n → Fits c n → Fits c m
-  shorter m n l h = le-trans (mul-le-mul-right (c .km - c .kg) (mul-le-mul l l)) h
+  shorter m n l h = le-trans (mul-le-mul-right (c .unit * c .km - c .kg) (mul-le-mul l l)) h
 
   abbrev fits : ℕ → Bool
-  fits n = leb (n * n * (c .km - c .kg)) (10 * q c * q c)
+  fits n = leb (n * n * (c .unit * c .km - c .kg)) (c .unit * 10 * q c * q c)
 
   hit : (n : ℕ) → Greatest fits longestPeriod n → Fits c n
   hit zero i = omega arith
-  hit (suc n) i = leb-true (suc n * suc n * (c .km - c .kg)) (10 * q c * q c) (i .hit (omega arith))
+  hit (suc n) i = leb-true (suc n * suc n * (c .unit * c .km - c .kg)) (c .unit * 10 * q c * q c) (i .hit (omega arith))
 
   pub period-is : period c < longestPeriod → Period c (period c)
   unfolding period
@@ -40,7 +40,7 @@ module _ (c : Loaded) where
         hit = hit n i;
         greatest = λ m h. elim (decLe m n) [
           | yes k ↦ k
-          | no k ↦ absurd (omega (arith, shorter (suc n) m (omega arith) h, leb-false (suc n * suc n * (c .km - c .kg)) (10 * q c * q c) (i .after (suc n) (omega arith) l)))
+          | no k ↦ absurd (omega (arith, shorter (suc n) m (omega arith) h, leb-false (suc n * suc n * (c .unit * c .km - c .kg)) (c .unit * 10 * q c * q c) (i .after (suc n) (omega arith) l)))
         ];
       }
 

@@ -1,4 +1,4 @@
--- Each verdict is its figure against its limit, restated from 01 and the requests for each set of criteria: a figure equal to its limit passes, and one less fails.
+-- Each verdict is its figure against its limit, restated from 01 and the requests for each set of criteria, with KG in tenths: a figure equal to its limit passes, and one less fails.
 use mathlib.Core.Path.{_≡_, refl, _∙_}
 use mathlib.Core.Bool.{Bool, true, false, _&&_}
 use mathlib.Core.List.{[], _∷_, map}
@@ -10,6 +10,7 @@ use lib.IntN.{ℤ, pos}
 use lib.Signed.{leZ}
 use borrow.Author.Tests.{le-leb, lt-leb}
 use Rattle.rules.specs.Blocks.{Set, code, timber}
+use Rattle.rules.specs.Loading.{tenths}
 use Rattle.rules.specs.Curve.{Loaded, E}
 use Rattle.rules.specs.Criteria.{limitsOf, set, area1, area2, area3, greatestLever, angleOfGreatest, gm, phi0, passes1, passes2, passes3, passes4, passes5, passes6, passes7}
 use Rattle.rules.specs.Report.{pass, slot, verdictNumber}
@@ -20,11 +21,16 @@ and-true : (b : Bool) → (b && true) ≡ b
 and-true true = refl
 and-true false = refl
 
+-- A ship with KG in tenths that is judged in a set.
+pub record In (s : Set) (c : Loaded) : Type 0 where
+  pub unit : c .unit ≡ tenths
+  pub set : c .weather .set ≡ s
+
 -- A criterion of a set that asks for at least so much.
 abbrev pub AtLeast : Set → ℕ → (Loaded → ℤ) → (Loaded → Bool) → Type 0
-AtLeast s limit figure passes = (c : Loaded) → c .weather .set ≡ s → passes c ≡ leZ (pos limit) (figure c)
+AtLeast s limit figure passes = (c : Loaded) → In s c → passes c ≡ leZ (pos limit) (figure c)
 
-module _ (s : Set) (limit : ℕ) (figure : Loaded → ℤ) (passes : Loaded → Bool) (is : AtLeast s limit figure passes) (c : Loaded) (e : c .weather .set ≡ s) where
+module _ (s : Set) (limit : ℕ) (figure : Loaded → ℤ) (passes : Loaded → Bool) (is : AtLeast s limit figure passes) (c : Loaded) (e : In s c) where
   pub passes-from : Le (pos limit) (figure c) → passes c ≡ true
   passes-from h = is c e ∙ le-true (pos limit) (figure c) h
 
@@ -33,7 +39,7 @@ module _ (s : Set) (limit : ℕ) (figure : Loaded → ℤ) (passes : Loaded → 
 
 -- ---- any set
 -- 4 asks for a lever from where the set looks, and a curve that ends before fails.
-pub lever-asked : (c : Loaded) → set c .from ≤ E c → passes4 c ≡ leZ (pos (set c .lever)) (greatestLever c)
+pub lever-asked : (c : Loaded) → set c .from ≤ E c → passes4 c ≡ leZ (pos (c .unit * set c .lever)) (greatestLever c)
 unfolding passes4
 lever-asked c h = rw (le-leb (set c .from) (E c) h)
 
@@ -46,33 +52,33 @@ pub criterion8 : (c : Loaded) → passes8 c ≡ leZ (pos 0) (net c)
 unfolding passes8
 criterion8 c = refl
 
--- ---- the Code's set
-pub criterion1 : AtLeast code 315_126_800_000 area1 passes1
+-- ---- the Code's set, 'every .. limit .. tenfold' (request 5)
+pub criterion1 : AtLeast code 3_151_268_000_000 area1 passes1
 unfolding passes1
-criterion1 c s = rw s
+criterion1 c i = rw (i .unit, i .set)
 
-pub criterion2 : AtLeast code 171_887_400_000 area2 passes2
+pub criterion2 : AtLeast code 1_718_874_000_000 area2 passes2
 unfolding passes2
-criterion2 c s = rw s
+criterion2 c i = rw (i .unit, i .set)
 
-pub criterion3 : AtLeast code 515_662_100_000 area3 passes3
+pub criterion3 : AtLeast code 5_156_621_000_000 area3 passes3
 unfolding passes3
-criterion3 c s = rw s
+criterion3 c i = rw (i .unit, i .set)
 
 -- 'If E < 300: fail.'
-pub criterion4 : (c : Loaded) → c .weather .set ≡ code → 300 ≤ E c → passes4 c ≡ leZ (pos 1_000_000_000) (greatestLever c)
-criterion4 c s h = lever-asked c (rw s h) ∙ rw s
+pub criterion4 : (c : Loaded) → In code c → 300 ≤ E c → passes4 c ≡ leZ (pos 10_000_000_000) (greatestLever c)
+criterion4 c i h = lever-asked c (rw (i .set) h) ∙ rw (i .unit, i .set)
 
 pub criterion4-short : (c : Loaded) → c .weather .set ≡ code → E c < 300 → passes4 c ≡ false
 criterion4-short c s h = lever-short c (rw s h)
 
 pub criterion5 : AtLeast code 250 (λ c. pos (angleOfGreatest c)) passes5
 unfolding passes5
-criterion5 c s = rw s
+criterion5 c i = rw (i .set)
 
-pub criterion6 : AtLeast code 150 gm passes6
+pub criterion6 : AtLeast code 1_500 gm passes6
 unfolding passes6
-criterion6 c s = rw s
+criterion6 c i = rw (i .unit, i .set)
 
 -- 'Pass: phi0 <= 160 and 10 phi0 <= 8 x deck edge. None: fail.'
 pub criterion7 : (c : Loaded) → c .weather .set ≡ code → passes7 c ≡ leb (phi0 c) (E c) && leb (phi0 c) 160 && leb (10 * phi0 c) (8 * c .weather .sky .deckEdge)
@@ -87,19 +93,19 @@ pub heel-199 : (c : Loaded) → c .weather .set ≡ code → phi0 c ≡ 160 → 
 heel-199 c s h e d = rw (criterion7 c s, h, le-leb 160 (E c) e, d)
 
 -- ---- timber on deck
--- 'Area of criterion 3 at least 458,366,300,000.'
-pub timber3 : AtLeast timber 458_366_300_000 area3 passes3
+-- 'Area of criterion 3 at least 458,366,300,000', tenfold.
+pub timber3 : AtLeast timber 4_583_663_000_000 area3 passes3
 unfolding passes3
-timber3 c s = rw s
+timber3 c i = rw (i .unit, i .set)
 
--- 'At least 0.25 m (1,250,000,000)', for every E.
-pub timber4 : AtLeast timber 1_250_000_000 greatestLever passes4
-timber4 c s = lever-asked c (rw s (omega arith)) ∙ rw s
+-- 'At least 0.25 m (1,250,000,000)', tenfold, for every E.
+pub timber4 : AtLeast timber 12_500_000_000 greatestLever passes4
+timber4 c i = lever-asked c (rw (i .set) (omega arith)) ∙ rw (i .unit, i .set)
 
--- 'GM at least 100.'
-pub timber6 : AtLeast timber 100 gm passes6
+-- 'GM at least 100', tenfold.
+pub timber6 : AtLeast timber 1_000 gm passes6
 unfolding passes6
-timber6 c s = rw s
+timber6 c i = rw (i .unit, i .set)
 
 -- 'Steady heel at most 16°, deck edge ignored.'
 pub timber7 : (c : Loaded) → c .weather .set ≡ timber → passes7 c ≡ leb (phi0 c) (E c) && leb (phi0 c) 160

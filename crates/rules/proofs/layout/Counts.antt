@@ -13,7 +13,7 @@ use Rattle.rules.specs.Layout.{Reading}
 use Rattle.rules.specs.Outcome.{refused, got, test, _>>=_, _>>_}
 use Rattle.rules.specs.Walk.{Head, header, load, nested, fixed, begun, loadAt, entries, inside, conditionIn, rowIn, aRow, aCondition, tableRow, theCondition, found, linesFrom, readFrames, read}
 use Rattle.rules.specs.Booklet.{counted, countedLines, rowAt, onlyConditions, behindShip}
-use Rattle.rules.specs.Loading.{inTable, displacement, entriesOf, correctedKG, weighed}
+use Rattle.rules.specs.Loading.{inTable, displacement, entriesOf, correctedKG, weighed, weighedIn}
 use Rattle.rules.specs.Answer.{limited}
 
 -- '2 to 40 A2': 'A3 before two rows; a 41st row' are refused with 4.
@@ -108,12 +108,12 @@ module _ (ln : ℕ) (left : List ℕ) (ls : List (List ℕ)) where
   unfolding counted test _>>=_ _>>_
   condition-25th = refl
 
--- 'Corrected KG above 60,000.'
+-- '8 now above 600,000.'
 module _ (r : Reading) (floats : inTable (r .rows) (displacement (entriesOf r)) ≡ true) where
-  pub kg-60001 : 60_000 < correctedKG (entriesOf r) → weighed r ≡ refused 8 0 0
-  unfolding weighed test _>>=_ _>>_
-  kg-60001 l = rw (floats, lt-leb (correctedKG (entriesOf r)) 60_000 l)
+  pub kg-600001 : 600_000 < correctedKG (entriesOf r) → weighed r ≡ refused 8 0 0
+  unfolding weighedIn test _>>=_ _>>_
+  kg-600001 l = rw (floats, lt-leb (correctedKG (entriesOf r)) 600_000 l)
 
-  pub kg-60000 : correctedKG (entriesOf r) ≤ 60_000 → weighed r ≡ got tt
-  unfolding weighed test _>>=_ _>>_
-  kg-60000 l = rw (floats, le-leb (correctedKG (entriesOf r)) 60_000 l)
+  pub kg-600000 : correctedKG (entriesOf r) ≤ 600_000 → weighed r ≡ got tt
+  unfolding weighedIn test _>>=_ _>>_
+  kg-600000 l = rw (floats, le-leb (correctedKG (entriesOf r)) 600_000 l)

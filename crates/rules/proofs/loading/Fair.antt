@@ -2,7 +2,7 @@
 use mathlib.Core.Path.{_≡_, refl, ap}
 use mathlib.Core.Bool.{Bool, true, false, _&&_}
 use mathlib.Core.List.{List, [], _∷_, map}
-use Prim.Native.Nat.{ℕ, suc, _≤_}
+use Prim.Native.Nat.{ℕ, suc, _*_, _≤_}
 use native.Mathlib.Omega.{arith}
 use lib.Dec.{leb}
 use lib.ListN.{getD, length}
@@ -11,8 +11,8 @@ use Rattle.rules.specs.Numbers.{full}
 use Rattle.rules.specs.Blocks.{Field, within, ok, Ship, Row, row, Weather}
 use Rattle.rules.specs.Layout.{Reading, Rising, Limits}
 use Rattle.rules.specs.Outcome.{got, test}
-use Rattle.rules.specs.Loading.{displacement, correctedKG, entriesOf, firstMass, lastMass, inTable, greatestKG, weighed}
-use Rattle.rules.specs.Curve.{stations, between, knAt, loadedAt, loaded}
+use Rattle.rules.specs.Loading.{tenths, displacement, correctedKG, correctedKGIn, entriesOf, firstMass, lastMass, inTable, greatestKG, weighed, weighedIn}
+use Rattle.rules.specs.Curve.{stations, between, knAt, loadedAt, loaded, loadedIn}
 use Rattle.rules.specs.Ranges.{rowAt, Fair}
 use Rattle.rules.proofs.walk.Outcome.{test-inv, refused-got}
 use Rattle.rules.proofs.layout.Fields.{both-true, fieldAt, Inside, ok-at}
@@ -65,16 +65,16 @@ last-to m [] h = omega arith
 last-to m (r ∷ []) h = row-at r (h .0) 0 .1
 last-to m (r ∷ s ∷ rows) h = last-to (r .mass) (s ∷ rows) (h .2)
 
-mass-within : (m : ℕ) (rows : List Row) → Rising m rows → full rows ≡ true → (w : ℕ) → inTable rows w ≡ true → Inside (rowField 0) w
+pub mass-within : (m : ℕ) (rows : List Row) → Rising m rows → full rows ≡ true → (w : ℕ) → inTable rows w ≡ true → Inside (rowField 0) w
 unfolding inTable
 mass-within m rows h s w e =
     let a = both-true (leb (firstMass rows) w) (leb w (lastMass rows)) e in
     (omega (arith, first-from m rows h s, leb-true (firstMass rows) w (a .0)), omega (arith, last-to m rows h, leb-true w (lastMass rows) (a .1)))
 
 -- ---- the theorem
-form-within : (s : Ship) (rows : List Row) (c : Weather) (w kg m : ℕ) → Rising m rows → full rows ≡ true → inTable rows w ≡ true → ok row (rowAt (loadedAt s rows c w kg)) ≡ true
+form-within : (unit : ℕ) (s : Ship) (rows : List Row) (c : Weather) (w kg m : ℕ) → Rising m rows → full rows ≡ true → inTable rows w ≡ true → ok row (rowAt (loadedAt unit s rows c w kg)) ≡ true
 unfolding ok loadedAt
-form-within s rows c w kg m h f e =
+form-within unit s rows c w kg m h f e =
     ap (λ (b : Bool). b && true)
     (within-one (rowField 0) (rowField 1 ∷ rowField 2 ∷ knFields) w (draught ∷ km ∷ knAt rows w) (mass-within m rows h f w e)
     (within-one (rowField 1) (rowField 2 ∷ knFields) draught (km ∷ knAt rows w) (between-at m rows h f 1 w)
@@ -95,23 +95,25 @@ passed true h = refl
 passed false h = refused-got h
 
 -- Neither 7 nor 8.
-weighed-inv : (r : Reading) → weighed r ≡ got tt → (inTable (r .rows) (displacement (entriesOf r)) ≡ true) × (correctedKG (entriesOf r) ≤ greatestKG)
-unfolding weighed
-weighed-inv r h =
-    let a = test-inv (inTable (r .rows) (displacement (entriesOf r))) 7 0 0 (test (leb (correctedKG (entriesOf r)) greatestKG) 8 0 0) h in
-    (a .0, leb-true (correctedKG (entriesOf r)) greatestKG (passed (leb (correctedKG (entriesOf r)) greatestKG) (a .1)))
+pub weighed-inv : (unit : ℕ) (r : Reading) → weighedIn unit r ≡ got tt → (inTable (r .rows) (displacement (entriesOf r)) ≡ true) × (correctedKGIn unit (entriesOf r) ≤ unit * greatestKG)
+unfolding weighedIn
+weighed-inv unit r h =
+    let kg = correctedKGIn unit (entriesOf r) in
+    let a = test-inv (inTable (r .rows) (displacement (entriesOf r))) 7 0 0 (test (leb kg (unit * greatestKG)) 8 0 0) h in
+    (a .0, leb-true kg (unit * greatestKG) (passed (leb kg (unit * greatestKG)) (a .1)))
 
-some-rows : (rows : List Row) → 2 ≤ length rows → full rows ≡ true
+pub some-rows : (rows : List Row) → 2 ≤ length rows → full rows ≡ true
 some-rows [] h = absurd (omega arith)
 some-rows (r ∷ rows) h = refl
 
 pub fair : (r : Reading) → Limits r → weighed r ≡ got tt → Fair (loaded r)
-unfolding loaded
+unfolding loadedIn
 fair r l h =
-    let a = weighed-inv r h in
+    let a = weighed-inv tenths r h in
     record {
       hull = l .hull;
       sky = l .loaded .sky;
-      form = form-within (r .ship) (r .rows) (r .condition .weather) (displacement (entriesOf r)) (correctedKG (entriesOf r)) 0 (l .rising) (some-rows (r .rows) (l .few)) (a .0);
+      form = form-within tenths (r .ship) (r .rows) (r .condition .weather) (displacement (entriesOf r)) (correctedKG (entriesOf r)) 0 (l .rising) (some-rows (r .rows) (l .few)) (a .0);
+      unit = refl;
       centre = a .1;
     }

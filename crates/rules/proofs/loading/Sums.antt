@@ -1,17 +1,17 @@
 -- Sums over the entries: each is counted once, and groups carry no meaning of their own.
 use mathlib.Core.Path.{_≡_, refl, ap, ap₂, sym, _∙_}
 use mathlib.Core.List.{List, [], _∷_, _++_, append-assoc}
-use Prim.Native.Nat.{ℕ, suc, _+_}
+use Prim.Native.Nat.{ℕ, suc, _+_, _*_}
 use native.Mathlib.Omega.{arith}
 use lib.ListN.{length, length-append}
 use Rattle.rules.specs.Rounding.{ceil}
 use Rattle.rules.specs.Layout.{Entries, end, leaf, group, Reading, leaves}
-use Rattle.rules.specs.Loading.{Entry, flat, total, mass, moment, freeSurface, displacement, correctedKG, entriesOf, weighedAt, weighed}
+use Rattle.rules.specs.Loading.{Entry, flat, total, mass, moment, freeSurface, tenths, displacement, correctedKG, correctedKGIn, entriesOf, weighedAt, weighed, weighedIn}
 use Rattle.rules.specs.Leaves.{sumLeaves, SameSums, followed, ungrouped, loadedWith}
 use Rattle.rules.specs.Outcome.{got, _>>_}
-use Rattle.rules.specs.Curve.{loadedAt, loaded}
+use Rattle.rules.specs.Curve.{loadedAt, loaded, loadedIn}
 use Rattle.rules.specs.Report.{judgement}
-use Rattle.rules.specs.Answer.{judged}
+use Rattle.rules.specs.Answer.{judged, judgedIn}
 
 pub total-append : (f : Entry → ℕ) (a b : List Entry) → total f (a ++ b) ≡ total f a + total f b
 unfolding total
@@ -37,9 +37,9 @@ pub displacement-leaves : (F : Entries) → displacement (flat F) ≡ sumLeaves 
 unfolding displacement
 displacement-leaves F = total-leaves mass F
 
-pub correctedKG-leaves : (F : Entries) → correctedKG (flat F) ≡ ceil (sumLeaves moment F + sumLeaves freeSurface F) (sumLeaves mass F)
-unfolding correctedKG
-correctedKG-leaves F = ap₂ ceil (ap₂ _+_ (total-leaves moment F) (total-leaves freeSurface F)) (displacement-leaves F)
+pub correctedKG-leaves : (unit : ℕ) (F : Entries) → correctedKGIn unit (flat F) ≡ ceil (unit * (sumLeaves moment F + sumLeaves freeSurface F)) (sumLeaves mass F)
+unfolding correctedKGIn
+correctedKG-leaves unit F = ap₂ (λ (moments w : ℕ). ceil (unit * moments) w) (ap₂ _+_ (total-leaves moment F) (total-leaves freeSurface F)) (displacement-leaves F)
 
 -- ---- without groups
 flat-followed : (a b : Entries) → flat (followed a b) ≡ flat a ++ flat b
@@ -58,15 +58,15 @@ flat-ungrouped (group g r) = flat-followed (ungrouped g) (ungrouped r) ∙ ap₂
 -- W, KG and what they are judged with settle the judgement: readings of one ship, table and weather, with one W and one KG, are judged alike.
 module _ (r s : Reading) (ship : r .ship ≡ s .ship) (rows : r .rows ≡ s .rows) (weather : r .condition .weather ≡ s .condition .weather) (w : displacement (entriesOf r) ≡ displacement (entriesOf s)) (kg : correctedKG (entriesOf r) ≡ correctedKG (entriesOf s)) where
   weighed-same : weighed r ≡ weighed s
-  unfolding weighed
-  weighed-same = λ i. weighedAt (rows i) (w i) (kg i)
+  unfolding weighedIn
+  weighed-same = λ i. weighedAt tenths (rows i) (w i) (kg i)
 
   loaded-same : loaded r ≡ loaded s
-  unfolding loaded
-  loaded-same = λ i. loadedAt (ship i) (rows i) (weather i) (w i) (kg i)
+  unfolding loadedIn
+  loaded-same = λ i. loadedAt tenths (ship i) (rows i) (weather i) (w i) (kg i)
 
   judged-by : judged r ≡ judged s
-  unfolding judged
+  unfolding judgedIn
   judged-by = ap₂ (λ a b. a >> got (judgement b)) weighed-same loaded-same
 
 -- So are readings of the same sums.
@@ -76,7 +76,7 @@ judged-by-sums r s S =
     let G = s .condition .load in
     judged-by r s (S .ship) (S .rows) (S .weather)
     (displacement-leaves F ∙ S .masses ∙ sym (displacement-leaves G))
-    (correctedKG-leaves F ∙ ap₂ ceil (S .moments) (S .masses) ∙ sym (correctedKG-leaves G))
+    (correctedKG-leaves tenths F ∙ ap₂ (λ (moments w : ℕ). ceil (tenths * moments) w) (S .moments) (S .masses) ∙ sym (correctedKG-leaves tenths G))
 
 -- And loads of the same entries.
 pub judged-same : (r : Reading) (F G : Entries) → flat F ≡ flat G → judged (loadedWith r F) ≡ judged (loadedWith r G)

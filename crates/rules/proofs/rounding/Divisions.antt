@@ -9,7 +9,7 @@ use lib.Dec.{eqb}
 use lib.IntN.{ℤ, pos, subℕ, _+ℤ_, _*ℤ_}
 use Rattle.rules.specs.Rounding.{ceil, up, table}
 use Rattle.rules.specs.Blocks.{Ship}
-use Rattle.rules.specs.Loading.{Entry, total, moment, freeSurface, displacement, correctedKG}
+use Rattle.rules.specs.Loading.{Entry, total, moment, freeSurface, displacement, correctedKGIn}
 use Rattle.rules.specs.Curve.{Loaded}
 use Rattle.rules.specs.Criteria.{lw1, lw2}
 use Rattle.rules.specs.Roll.{b, C, q, period, X1, X2, K, S, keelIndex, k, x1, x2, s, p, rOf}
@@ -17,9 +17,9 @@ use Rattle.rules.proofs.rounding.Rounding.{Floor, Ceiling, CeilingZ, fl
 use Rattle.rules.proofs.rounding.Tables.{Linear, linear-unique, X1-is, X2-is, K-is, S-is}
 
 -- 'KG = (sum of mass x centre + free surface moments) / W, rounded up.'
-pub kg-up : (es : List Entry) → 0 < displacement es → Ceiling (total moment es + total freeSurface es) (displacement es) (correctedKG es)
-unfolding correctedKG
-kg-up es h = ceil-is (total moment es + total freeSurface es) (displacement es) h
+pub kg-up : (m : ℕ) (es : List Entry) → 0 < displacement es → Ceiling (m * (total moment es + total freeSurface es)) (displacement es) (correctedKGIn m es)
+unfolding correctedKGIn
+kg-up m es h = ceil-is (m * (total moment es + total freeSurface es)) (displacement es) h
 
 -- 'lw1 = 5040 x wind area x Z / (981 x W), rounded up.'
 pub lw1-up : (c : Loaded) → 0 < c .w → Ceiling (5040 * c .weather .sky .windArea * c .weather .sky .z) (981 * c .w) (lw1 c)
@@ -52,9 +52,9 @@ unfolding p
 p-up c m h = subst (λ (n : ℕ). Ceiling (n * x2 c) 1000 (p c)) (ceiling-unique (ceil-is (k c * x1 c) 1000 (omega arith)) h) (ceil-is (ceil (k c * x1 c) 1000 * x2 c) 1000 (omega arith))
 
 -- 'r = 730 + 600 (KG - d)/d, the quotient rounded up, also below zero.'
-pub r-up : (kg d : ℕ) → 0 < d → (z : ℤ) → CeilingZ (pos 600 *ℤ subℕ kg d) d z → rOf kg d ≡ pos 730 +ℤ z
+pub r-up : (m kg d : ℕ) → 0 < m * d → (z : ℤ) → CeilingZ (pos 600 *ℤ subℕ kg (m * d)) (m * d) z → rOf m kg d ≡ pos 730 +ℤ z
 unfolding rOf
-r-up kg d h z i = ap (λ (n : ℤ). pos 730 +ℤ n) (ceilingZ-unique (ceilZ-is (pos 600 *ℤ subℕ kg d) d h) i)
+r-up m kg d h z i = ap (λ (n : ℤ). pos 730 +ℤ n) (ceilingZ-unique (ceilZ-is (pos 600 *ℤ subℕ kg (m * d)) (m * d) h) i)
 
 -- 'X1 from b, X2 from CB, k from the keel index', 's from n': what is linear through the table's points, rounded up, and nothing else.
 pub x1-up : (c : Loaded) (f : ℕ → ℕ) → Linear up X1 f → x1 c ≡ f (b c)

@@ -4,6 +4,7 @@ use Prim.Native.Nat.{ℕ, _-_, _<_}
 use native.Mathlib.Omega.{arith}
 use lib.IntN.{pos}
 use mir.Facts.{toZ-ofZ}
+use Rattle.rules.specs.Loading.{tenths}
 use Rattle.rules.specs.Rounding.{peak}
 use Rattle.rules.specs.Curve.{Loaded, leverZ, y, E}
 use Rattle.rules.proofs.rounding.Searches.{peak-is}
@@ -45,7 +46,7 @@ at-peak : (c : tie.After-peak)
     → c .peak .result ≡ peak (λ t. y (ship (c .before .before .before)) (pos t)) (c .before .before .before .args .from) (E (ship (c .before .before .before)) - c .before .before .before .args .from)
 at-peak c =
     let s = c .before .before .before in
-    c .peak .ensures ∙ peak-held (ship s .kn) (ship s .kg) (s .args .y .now) (s .pre .3) (s .args .from) (E (ship s) - s .args .from) (omega (arith, fair-end _ (s .pre .0), c .before .if2 .left))
+    c .peak .ensures ∙ peak-held tenths (ship s .kn) (ship s .kg) (s .args .y .now) (s .pre .3) (s .args .from) (E (ship s) - s .args .from) (omega (arith, fair-end _ (s .pre .0), c .before .if2 .left))
 
 in-curve : (c : tie.After-peak) → c .peak .result < 601
 in-curve c =

@@ -8,6 +8,7 @@ use lib.ListN.{getD}
 use mir.Syntax.{w64}
 use mir.Val.{SFits, toZ, ofZ}
 use mir.Facts.{toZ-ofZ}
+use Rattle.rules.specs.Loading.{tenths}
 use Rattle.rules.specs.Rounding.{peak}
 use Rattle.rules.specs.Curve.{Loaded, y, E}
 use Rattle.rules.specs.Criteria.{area1, area3, greatestLever, angleOfGreatest, gm}
@@ -42,7 +43,7 @@ unfolding angleOfGreatest
 angle-is c =
     let s = c .before .before .before .before .before in
     let n : E (ship s) - 0 ≡ E (ship s) = omega arith in
-    rw n at (c .peak .ensures) ∙ peak-held (ship s .kn) (ship s .kg) (s .args .y .now) (s .pre .2) 0 (E (ship s)) (omega (arith, fair-end _ (s .pre .0)))
+    rw n at (c .peak .ensures) ∙ peak-held tenths (ship s .kn) (ship s .kg) (s .args .y .now) (s .pre .2) 0 (E (ship s)) (omega (arith, fair-end _ (s .pre .0)))
 
 lever-is : (c : tie.After-greatest-lever) → toZ w64 (ofZ w64 (c .greatest-lever .result)) ≡ greatestLever (ship (c .before .before .before .before .before .before))
 lever-is c = toZ-ofZ (record { sfits = c .greatest-lever .ok }) ∙ c .greatest-lever .ensures

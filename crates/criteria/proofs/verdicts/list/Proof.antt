@@ -2,6 +2,7 @@
 use mathlib.Core.Path.{_≡_, refl, ap, ap₂, sym, _∙_}
 use mathlib.Core.Bool.{Bool}
 use mathlib.Core.List.{map}
+use native.Mathlib.Omega.{arith}
 use lib.Dec.{leb}
 use borrow.Author.Needs.{needs}
 use Rattle.rules.specs.Curve.{Loaded}
@@ -68,7 +69,7 @@ fourth : (c : tie.After-at-least4) → c .at-least4 .result ≡ verdictNumber (s
 fourth c =
     let s = from4 c in
     slot-least 3 (λ x. x .lever) (λ x. x .lever) _ _ _ _ (c .at-least4 .ensures) (c .before .before .struct-told7 .given .1 .1 .1 .0 .1) (c .before .struct-told8 .given .1 .1 .1 .0 .1) (s .pre .1) (s .pre .2)
-    ∙ ap (λ (passes : Bool). verdictNumber (slot (uses (ship s) 4) (verdict passes))) (lever-decides (ship s))
+    ∙ ap (λ (passes : Bool). verdictNumber (slot (uses (ship s) 4) (verdict passes))) (lever-decides (ship s) (omega arith))
 
 fifth : (c : tie.After-slot) → c .slot .result ≡ verdictNumber (slot (uses (ship (from5 c)) 5) (verdict (passes5 (ship (from5 c)))))
 unfolding passes5

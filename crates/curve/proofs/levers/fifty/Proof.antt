@@ -23,7 +23,7 @@ facts c =
     let a = c .args .a in
     let b = c .args .b in
     let m = c .args .m in
-    let n = 2 * 10 ^ 10 in
+    let n = 2 * 10 ^ 11 in
     record {
       l = omega arith;
       p = omega arith;

@@ -10,7 +10,7 @@ use Rattle.curve.proofs.levers.lever.Statement.{statement}
 use Rattle.curve.proofs.levers.lever.Tie as tie
 
 returns : tie.Need-returns
-returns c = difference (100000 * c .args .kn) (c .args .kg * getD sines (c .args .i) 0) (over-small (c .pre .0)) (under-small (c .args .i) (c .pre .1))
+returns c = difference (1_000_000 * c .args .kn) (c .args .kg * getD sines (c .args .i) 0) (over-small (c .pre .0)) (under-small (c .args .i) (c .pre .1))
 
 mul-over : tie.Need-mul-over
 mul-over c = search needs
@@ -31,7 +31,7 @@ cast-result-2 : tie.Need-cast-result-2
 cast-result-2 c = omega (arith, under-small (c .args .i) (c .pre .1))
 
 sub-result : tie.Need-sub-result
-sub-result c = difference-fits (100000 * c .args .kn) (c .args .kg * getD sines (c .args .i) 0) (over-small (c .pre .0)) (under-small (c .args .i) (c .pre .1))
+sub-result c = difference-fits (1_000_000 * c .args .kn) (c .args .kg * getD sines (c .args .i) 0) (over-small (c .pre .0)) (under-small (c .args .i) (c .pre .1))
 
 pub lever-spec : {M : Type 1} → statement M
 lever-spec =
