@@ -1,4 +1,5 @@
 //! The bench sheet: P1 to P13, its unmarked lines, and the slips it has met.
+//! Since request 5 its figures for KG, GM, areas, lever, y and net are tenfold.
 
 use crate::book::Document;
 use crate::criteria::{Gust, Wind, FAIL, PASS, UNUSED};
@@ -9,6 +10,7 @@ use crate::loading::laden;
 use crate::refusal::Refusal;
 use crate::report::report;
 use crate::roll;
+use crate::unit::TENTHS;
 
 pub const SHIP: &str = "A1000D0000C350000027100000000000\n";
 pub const ROW_1: &str =
@@ -19,10 +21,10 @@ pub const CONDITION: &str = "A30018C1000C000009C40FA002BC01F400C8C2000600155CC00
 
 pub const REPORT: &str = concat!(
     "D1006500000000000101010101010101",
-    "0000000000155CC00000000000000FA000000000000001F4",
-    "000000645737BC0000000042E46A1900000000A73BA1D500",
-    "0000000059682F00000000000000012C000000000000002A",
-    "00000000000000EF000000478E8D8F80\n"
+    "0000000000155CC00000000000009C400000000000001388",
+    "000003EB682D58000000029CEC24FA000000068854525200",
+    "000000037E11D600000000000000012C000000000000002A",
+    "00000000000000EF000002CB91879B00\n"
 );
 
 fn p1() -> String {
@@ -56,7 +58,7 @@ fn p1_report() {
 fn p2_to_p4_the_roll() {
     let document = read(&p1());
     let laden = laden(&document).expect("P1 lies on a row");
-    let n = roll::period(&document.ship, laden.draught, laden.gm());
+    let n = roll::period(&document.ship, laden.draught, laden.gm(), TENTHS);
     assert_eq!(n, 1_156);
     assert_eq!(read_up(&roll::S, n), 681);
     assert_eq!(roll::angle(&document.ship, 700, &laden), Some(239));
@@ -69,7 +71,7 @@ fn p5_to_p7_the_wind_and_the_gust() {
     let curve = Curve::of(&laden);
     let wind = Wind::on(&document, &laden, &curve);
     assert_eq!((wind.steady_lever, wind.gust_lever), (37, 56));
-    assert_eq!(curve.y(-50), -221_800_000);
+    assert_eq!(curve.y(-50), -2_218_000_000);
     let Some(Gust { start, end, .. }) = wind.gust(&curve, 239, 500) else {
         panic!("P1 has a steady heel and a gust's first angle");
     };
@@ -156,12 +158,12 @@ fn timber_by_gm_and_by_flooding_before_30() {
         let text = p1_with(&[("C1000C", "C6000C")]).replace(from, to);
         judge_text(text.as_bytes()).expect("sound")
     };
-    for (km, gm, verdict) in [("1003", 99, FAIL), ("1004", 100, PASS)] {
+    for (km, gm, verdict) in [("1003", 990, FAIL), ("1004", 1_000, PASS)] {
         let judged = timber("1194", km);
         assert_eq!((judged.figures[2], judged.verdicts[5]), (gm, verdict));
     }
     let early = timber("01F400C8", "012B00C8");
-    let lever = 23_952_000 + 49 * 30_000_000;
+    let lever = 10 * (23_952_000 + 49 * 30_000_000);
     assert_eq!((early.verdicts[3], early.figures[6]), (PASS, lever));
     assert_eq!(early.verdicts[..2], [UNUSED; 2]);
 }

@@ -3,12 +3,13 @@
 //! `CriteriaSet` says of them.
 
 use crate::book::Document;
-use crate::curve::{Curve, Y_PER_MILLIMETRE};
+use crate::curve::Curve;
 use crate::line::up;
-use crate::loading::{laden, Laden};
+use crate::loading::{laden_in, Laden};
 use crate::refusal::Refusal;
 use crate::roll;
 use crate::sets::{CriteriaSet, Limit};
+use crate::unit::{Unit, TENTHS};
 
 pub const FAIL: u8 = 0;
 pub const PASS: u8 = 1;
@@ -27,7 +28,12 @@ pub struct Judgement {
 
 /// The judgement of a document, or refusal 7 or 8.
 pub fn judge_document(document: &Document) -> Result<Judgement, Refusal> {
-    Ok(judgement(document, &laden(document)?))
+    judge_in(document, TENTHS)
+}
+
+/// The same with KG and what goes with it in this unit.
+pub fn judge_in(document: &Document, unit: Unit) -> Result<Judgement, Refusal> {
+    Ok(judgement(document, &laden_in(document, unit)?))
 }
 
 fn verdict(holds: bool) -> u8 {
@@ -47,6 +53,7 @@ pub fn at_least(figure: impl Into<Option<i128>>, limit: Limit) -> u8 {
 
 fn judgement(document: &Document, laden: &Laden) -> Judgement {
     let set = document.condition.criteria;
+    let limit = |limit: Limit| limit.map(|limit| laden.unit.of(limit));
     let curve = Curve::of(laden);
     let flooding = document.condition.weather.flooding;
     let to_30 = curve.area(0, flooding.min(300));
@@ -58,12 +65,12 @@ fn judgement(document: &Document, laden: &Laden) -> Judgement {
     let (weather, phi1, net) = wind.weather(document, laden, &curve);
     Judgement {
         verdicts: [
-            at_least(to_30, set.area_to_30),
-            at_least(from_30, set.area_30_to_40),
-            at_least(to_40, set.area_to_40),
-            at_least(high, set.greatest_lever),
+            at_least(to_30, limit(set.area_to_30)),
+            at_least(from_30, limit(set.area_30_to_40)),
+            at_least(to_40, limit(set.area_to_40)),
+            at_least(high, limit(set.greatest_lever)),
             at_least(angle, set.angle_of_greatest),
-            at_least(laden.gm(), set.gm),
+            at_least(laden.gm(), limit(set.gm)),
             wind.steady(set, document.condition.weather.deck_edge),
             weather,
         ],
@@ -104,7 +111,7 @@ impl Wind {
         let weather = &document.condition.weather;
         let heeling = 5_040 * weather.wind_area * weather.arm;
         let steady_lever = up(heeling, 981 * laden.displacement);
-        let steady_y = steady_lever * Y_PER_MILLIMETRE;
+        let steady_y = curve.of_millimetres(steady_lever);
         Wind {
             steady_lever,
             gust_lever: up(3 * steady_lever, 2),
@@ -135,11 +142,11 @@ impl Wind {
     /// None where phi0 or u is none.
     pub fn gust(&self, curve: &Curve, phi1: i128, flooding: i128) -> Option<Gust> {
         let phi0 = self.phi0?;
-        let gust_y = self.gust_lever * Y_PER_MILLIMETRE;
+        let gust_y = curve.of_millimetres(self.gust_lever);
         let last = flooding.min(WEATHER_END);
         let u = curve.first_at_least(gust_y, phi0..=last)?;
         let end = curve.stays_to(gust_y, u, last);
-        let exact = curve.y(phi0) == self.steady_lever * Y_PER_MILLIMETRE;
+        let exact = curve.y(phi0) == curve.of_millimetres(self.steady_lever);
         let start = if exact { phi0 } else { phi0 - 1 } - phi1;
         let net = curve.area(start, end) - 2 * gust_y * (end - start);
         Some(Gust { start, end, net })

@@ -1,14 +1,20 @@
-//! The curve of righting levers in y units (5,000,000 to the millimetre) at
-//! every tenth of a degree from 600 to windward to 600 to leeward, with the
-//! areas under it summed once from the windward end.
+//! The curve of righting levers in y units (5,000,000 to each of the unit of
+//! KG) at every tenth of a degree from 600 to windward to 600 to leeward, with
+//! the areas under it summed once from the windward end.
 
 use std::ops::RangeInclusive;
 
 use crate::loading::Laden;
+use crate::unit::{Unit, TENTHS};
 
 pub const REACH: i128 = 600;
 pub const STEP: i128 = 50;
-pub const Y_PER_MILLIMETRE: i128 = 5_000_000;
+
+/// One of the unit of KG in y units.
+const Y_PER_UNIT: i128 = 5_000_000;
+
+/// A millimetre in y units: 50,000,000.
+pub const Y_PER_MILLIMETRE: i128 = TENTHS.of(Y_PER_UNIT);
 
 pub const SINES: [i128; 13] = [
     0, 8_716, 17_365, 25_882, 34_202, 42_262, 50_000, 57_358, 64_279, 70_711, 76_604, 81_915,
@@ -16,6 +22,7 @@ pub const SINES: [i128; 13] = [
 ];
 
 pub struct Curve {
+    unit: Unit,
     levers: Vec<i128>,
     areas: Vec<i128>,
 }
@@ -26,7 +33,7 @@ impl Curve {
             .kn
             .iter()
             .zip(SINES)
-            .map(|(kn, sine)| 100_000 * kn - laden.kg * sine)
+            .map(|(&kn, sine)| 100_000 * laden.unit.of(kn) - laden.kg * sine)
             .collect();
         let levers: Vec<i128> = (-REACH..=REACH).map(|t| lever(&stations, t)).collect();
         let mut areas = vec![0];
@@ -35,7 +42,16 @@ impl Curve {
             area += pair[0] + pair[1];
             areas.push(area);
         }
-        Curve { levers, areas }
+        Curve {
+            unit: laden.unit,
+            levers,
+            areas,
+        }
+    }
+
+    /// A lever of so many millimetres in y units.
+    pub fn of_millimetres(&self, lever: i128) -> i128 {
+        Y_PER_UNIT * self.unit.of(lever)
     }
 
     pub fn y(&self, t: i128) -> i128 {
@@ -88,6 +104,7 @@ mod tests {
 
     fn curve(kn: [i128; 13], kg: i128) -> Curve {
         Curve::of(&Laden {
+            unit: TENTHS,
             displacement: 1,
             kg,
             draught: 1,

@@ -4,12 +4,16 @@
 use crate::book::{Document, Entry, Liquid, Row, Weight};
 use crate::line::{between, down, up};
 use crate::refusal::Refusal;
+use crate::unit::{Unit, TENTHS};
 
 const NOMINALLY_FULL: i128 = 980;
+/// In millimetres: 600,000 in tenths.
 const HIGHEST_KG: i128 = 60_000;
 
 #[derive(Clone, Debug, PartialEq)]
 pub struct Laden {
+    /// The unit of KG and of what follows from it.
+    pub unit: Unit,
     pub displacement: i128,
     pub kg: i128,
     pub draught: i128,
@@ -19,7 +23,7 @@ pub struct Laden {
 
 impl Laden {
     pub fn gm(&self) -> i128 {
-        self.km - self.kg
+        self.unit.of(self.km) - self.kg
     }
 }
 
@@ -54,12 +58,17 @@ fn free_surface(liquid: &Liquid, counts: bool) -> i128 {
 
 /// The laden ship, or refusal 7 (off the rows) or 8 (KG too high).
 pub fn laden(document: &Document) -> Result<Laden, Refusal> {
+    laden_in(document, TENTHS)
+}
+
+/// The same with KG rounded up to a whole number of this unit.
+pub fn laden_in(document: &Document, unit: Unit) -> Result<Laden, Refusal> {
     let (displacement, moment) = sums(&document.condition.entries);
     let Some((lower, upper)) = rows_around(&document.rows, displacement) else {
         return Err(Refusal::of_loading(7));
     };
-    let kg = up(moment, displacement);
-    if kg > HIGHEST_KG {
+    let kg = up(unit.of(moment), displacement);
+    if kg > unit.of(HIGHEST_KG) {
         return Err(Refusal::of_loading(8));
     }
     let at_load = |of_lower: i128, of_upper: i128| {
@@ -70,6 +79,7 @@ pub fn laden(document: &Document) -> Result<Laden, Refusal> {
     };
     let kn = lower.kn.iter().zip(&upper.kn);
     Ok(Laden {
+        unit,
         displacement,
         kg,
         draught: at_load(lower.draught, upper.draught),

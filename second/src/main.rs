@@ -20,6 +20,7 @@ mod roll;
 mod sets;
 mod stream;
 mod text;
+mod unit;
 
 #[cfg(test)]
 mod bench;

@@ -4,6 +4,7 @@
 use crate::book::Ship;
 use crate::line::{down, read_up, root_down, root_up, up, Point};
 use crate::loading::Laden;
+use crate::unit::Unit;
 
 pub const X1: [Point; 11] = [
     (2_400, 1_000),
@@ -58,11 +59,12 @@ pub fn fullness(ship: &Ship, draught: i128) -> i128 {
     down(1_000 * ship.breadth, draught)
 }
 
-/// The rolling period in hundredths of a second, for a GM above 0.
-pub fn period(ship: &Ship, draught: i128, gm: i128) -> i128 {
+/// The rolling period in hundredths of a second, for a GM above 0 in this
+/// unit: the greatest n with n² GM <= 100 q² in tenths.
+pub fn period(ship: &Ship, draught: i128, gm: i128, unit: Unit) -> i128 {
     let c = 373_000 + 23 * fullness(ship, draught) - up(43 * ship.length, 100);
     let q = down(2 * c * ship.breadth, 1_000_000);
-    root_down(down(10 * q * q, gm))
+    root_down(down(unit.of(10 * q * q), gm))
 }
 
 pub fn keel_index(ship: &Ship) -> i128 {
@@ -77,41 +79,46 @@ fn keel_factor(ship: &Ship) -> i128 {
     }
 }
 
-/// r in thousandths, from the height of KG over the waterline.
-pub fn height_factor(kg: i128, draught: i128) -> i128 {
-    730 + up(600 * (kg - draught), draught)
+/// r in thousandths, from the height of KG over the waterline, both in the
+/// same unit.
+pub fn height_factor(kg: i128, waterline: i128) -> i128 {
+    730 + up(600 * (kg - waterline), waterline)
 }
 
 /// phi1 in tenths of a degree, or none where criterion 8 is not judged.
 pub fn angle(ship: &Ship, block_coefficient: i128, laden: &Laden) -> Option<i128> {
     let (draught, kg, gm) = (laden.draught, laden.kg, laden.gm());
+    let waterline = laden.unit.of(draught);
     let outside = gm <= 0
         || 10 * ship.breadth >= 35 * draught
-        || 10 * kg < 7 * draught
-        || 10 * kg > 15 * draught;
+        || 10 * kg < 7 * waterline
+        || 10 * kg > 15 * waterline;
     if outside {
         return None;
     }
-    let n = period(ship, draught, gm);
+    let n = period(ship, draught, gm, laden.unit);
     if n >= LONGEST_PERIOD {
         return None;
     }
     let x1 = read_up(&X1, fullness(ship, draught));
     let x2 = read_up(&X2, block_coefficient);
     let p = up(up(keel_factor(ship) * x1, 1_000) * x2, 1_000);
-    let product = 1_090 * 1_090 * p * p * height_factor(kg, draught) * read_up(&S, n);
+    let product = 1_090 * 1_090 * p * p * height_factor(kg, waterline) * read_up(&S, n);
     Some(root_up(up(product, 10_i128.pow(13))))
 }
 
 #[cfg(test)]
 mod tests {
     use super::*;
+    use crate::unit::TENTHS;
 
     #[test]
     fn p8_height_factor_rounds_up_either_side() {
-        assert_eq!(height_factor(3_999, 4_000), 730);
-        assert_eq!(height_factor(4_001, 4_000), 731);
-        assert_eq!(height_factor(2_800, 4_000), 550);
+        let waterline = TENTHS.of(4_000);
+        assert_eq!(height_factor(39_999, waterline), 730);
+        assert_eq!(height_factor(40_000, waterline), 730);
+        assert_eq!(height_factor(40_001, waterline), 731);
+        assert_eq!(height_factor(28_000, waterline), 550);
     }
 
     #[test]

@@ -1,6 +1,8 @@
 //! The sets of criteria. A set is one value: its limits, the slots that it
 //! uses, and what its slots 4 and 7 look at. The tag of the block in C1's
-//! place chooses it; a further set is one more value in `SETS`.
+//! place chooses it; a further set is one more value in `SETS`. Limits of
+//! areas, levers and GM stand here as document 01 and request 2 have them, in
+//! millimetres; a judgement raises them to its unit, tenfold to tenths.
 
 use crate::layout::{C1, C6};
 

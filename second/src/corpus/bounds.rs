@@ -15,7 +15,10 @@ pub fn add(cases: &mut Cases) {
         for (index, field) in fields(tag).unwrap_or_default().iter().enumerate() {
             for value in values(field) {
                 let name = format!("bound {tag:02X} field {index} value {value}");
-                cases.add(name, move |dice| at_bound(dice, tag, index, value));
+                let inner = tag == A2 && (FIRST_KN + 2..FIRST_KN + 12).contains(&index);
+                cases.add_spared(inner && value == 65_535, name, move |dice| {
+                    at_bound(dice, tag, index, value)
+                });
             }
         }
     }

@@ -17,6 +17,7 @@ use crate::instrument::judge_text;
 use crate::layout::{fields, C3, C5};
 use crate::line::up;
 use crate::sets::{CriteriaSet, CODE};
+use crate::unit::TENTHS;
 
 /// What stands for a tank.
 pub type Kind = fn(Block) -> Vec<Block>;
@@ -73,7 +74,7 @@ pub fn filled(dice: &mut Dice, (fill, mass): (i128, i128), depth: usize, kind: K
 }
 
 /// Each field at its limits and one beyond, and the greatest tank there can
-/// be, with a corrected KG of 60,000 and one more.
+/// be, at the highest centre that its free surface leaves it and one higher.
 fn add_limits(cases: &mut Cases) {
     for (index, field) in fields(C5).unwrap_or_default().iter().enumerate() {
         for value in values(field) {
@@ -151,19 +152,17 @@ const CARGO: (&str, Entry) = ("C5", |mass, centre| cargo(tank(mass, centre, 985,
 
 /// The 200th entry and the 201st, each of a kind behind others of a kind.
 fn add_counts(cases: &mut Cases) {
-    for (others, last, count) in [
-        (ITEM, CARGO, 200),
-        (TANK, CARGO, 200),
-        (CARGO, CARGO, 200),
-        (ITEM, CARGO, 201),
-        (TANK, CARGO, 201),
-        (CARGO, CARGO, 201),
-        (CARGO, TANK, 201),
-        (CARGO, ITEM, 201),
+    for (others, last, count, spared) in [
+        (ITEM, CARGO, 200, false),
+        (TANK, CARGO, 200, true),
+        (CARGO, CARGO, 200, false),
+        (ITEM, CARGO, 201, true),
+        (TANK, CARGO, 201, true),
+        (CARGO, CARGO, 201, false),
+        (CARGO, TANK, 201, true),
+        (CARGO, ITEM, 201, true),
     ] {
         let name = format!("{} as entry {count} behind {}", last.0, others.0);
-        let spared =
-            count == 201 && [(TANK.0, CARGO.0), (CARGO.0, ITEM.0)].contains(&(others.0, last.0));
         cases.add_spared(spared, name, move |dice| {
             let vessel = vessel::judged(dice);
             let share = vessel.mass / count;
@@ -265,19 +264,21 @@ fn add_faults(cases: &mut Cases) {
 pub fn planned(vessel: &Vessel, inertia: i128, kind: Kind) -> Vec<u8> {
     let part = vessel.mass / 10;
     let mut entries = kind(tank(part, vessel.kg, 985, 1_025, inertia));
-    entries.push(item(vessel.mass - part, vessel.kg));
+    let mut others = vessel.items();
+    others[0].values[0] -= part;
+    entries.extend(others);
     vessel.draft(entries).text()
 }
 
-/// A free surface of about 205 mm in KG, one that leaves a GM of 150 or 149,
-/// and one by which each criterion fails in its turn.
+/// A free surface of about 205 mm in KG, one that leaves a GM of 1,500 tenths
+/// or of 1,499, and one by which each criterion fails in its turn.
 fn add_planner(cases: &mut Cases) {
     cases.add_twins(&EITHER, "planner's tank", |dice, kind| {
         let vessel = vessel::judged(dice);
         planned(&vessel, vessel.mass / 5_000, kind)
     });
-    for gm in [149, 150] {
-        let name = format!("planner's tank, GM {gm} with its surface");
+    for gm in [1_499, 1_500] {
+        let name = format!("planner's tank, GM {gm} tenths with its surface");
         cases.add_twins(&EITHER, &name, move |dice, kind| {
             let (vessel, inertia) = left_with(dice, &CODE, gm);
             planned(&vessel, inertia, kind)
@@ -292,12 +293,12 @@ fn add_planner(cases: &mut Cases) {
     }
 }
 
-/// A ship and a surface that leaves her this GM.
+/// A ship and a surface that leaves her this GM, in tenths.
 pub fn left_with(dice: &mut Dice, set: &'static CriteriaSet, gm: i128) -> (Vessel, i128) {
     let mut vessel = vessel::judged(dice);
     vessel.criteria = set;
     let inertia = vessel.mass / 5_000;
-    vessel.set_gm(gm + up(1_025_000 * inertia, vessel.mass));
+    vessel.set_gm(gm + up(TENTHS.of(1_025_000 * inertia), vessel.mass));
     (vessel, inertia)
 }
 
@@ -333,8 +334,8 @@ pub fn turned(dice: &mut Dice, set: &'static CriteriaSet, criterion: usize) -> (
     drawn
 }
 
-/// A corrected KG of 60,000 by the free surface, and by one density unit less
-/// and more.
+/// A corrected KG of 60,000 mm by the free surface, and by one density unit
+/// less and more.
 fn add_highest(cases: &mut Cases) {
     for fill in [1, 980, 985, 1_000] {
         for beside in [-1, 0, 1] {

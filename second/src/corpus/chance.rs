@@ -16,6 +16,7 @@ use crate::report::REPORT;
 use crate::sets::SETS;
 use crate::stream::LONGEST;
 use crate::text::MOST_CHARACTERS;
+use crate::unit::TENTHS;
 
 pub fn call(dice: &mut Dice, small: bool) -> Call {
     let mut text = match dice.index(44) {
@@ -131,7 +132,7 @@ fn windy(dice: &mut Dice) -> Vec<u8> {
     vessel.weather.flooding = dice.between(150, 600);
     vessel.ship.sharp_bilge = dice.chance(15);
     let gm = dice.between(400, 2_500);
-    vessel.set_gm(gm);
+    vessel.set_gm(TENTHS.of(gm));
     let entries = spread(dice, &vessel, 3);
     laid_out(dice, vessel, entries).text()
 }

@@ -3,10 +3,11 @@
 use super::cases::Cases;
 use super::dice::Dice;
 use super::mend::{mend, Bounds, OPEN};
-use super::solve::{area, lever, Search};
+use super::solve::{area, lever, Search, PER_KN};
 use super::vessel::{self, Vessel};
 use crate::curve::SINES;
 use crate::sets::CODE;
+use crate::unit::TENTHS;
 
 const TO_30: Search = Search {
     flooding: (230, 330),
@@ -60,7 +61,7 @@ pub fn add(cases: &mut Cases) {
         (3, &TO_40, &TO_40, CODE.area_to_40),
         (4, &GREATEST, &GREATEST, CODE.greatest_lever),
     ] {
-        let limit = limit.unwrap_or_default();
+        let limit = TENTHS.of(limit.unwrap_or_default());
         for (search, off) in [(beside, -1), (exact, 0), (beside, 1)] {
             cases.add(format!("criterion {number} limit {off:+}"), move |dice| {
                 let vessel = solved(dice, search, limit + off);
@@ -68,8 +69,8 @@ pub fn add(cases: &mut Cases) {
             });
         }
     }
-    for gm in [-1, 0, 1, 149, 150, 151] {
-        cases.add(format!("GM {gm}"), move |dice| {
+    for gm in [-1, 0, 1, 1_499, 1_500, 1_501] {
+        cases.add(format!("GM {gm} tenths"), move |dice| {
             let mut vessel = vessel::judged(dice);
             vessel.set_gm(gm);
             vessel.text(dice)
@@ -95,11 +96,11 @@ pub fn solved(dice: &mut Dice, search: &Search, wanted: i128) -> Vessel {
 /// stations equal to it or less than a millimetre under it: as high as the
 /// greatest was, or as high as a smooth row can have them.
 pub fn crest(vessel: &mut Vessel, stations: &[usize]) {
-    let kg = vessel.kg;
+    let kg = vessel.kg_in_tenths();
     let row = vessel.laden();
-    let levers = (0..13).map(|at| 100_000 * row.kn[at] - kg * SINES[at]);
-    let mut top = levers.max().unwrap_or(0) + 200_000;
-    while top > 200_000 && !mend(row, &crested(kg, stations, top)) {
+    let levers = (0..13).map(|at| PER_KN * row.kn[at] - kg * SINES[at]);
+    let mut top = levers.max().unwrap_or(0) + 2 * PER_KN;
+    while top > 2 * PER_KN && !mend(row, &crested(kg, stations, top)) {
         top = top * 9 / 10;
     }
 }
@@ -107,11 +108,11 @@ pub fn crest(vessel: &mut Vessel, stations: &[usize]) {
 /// Bounds in which the levers at some stations are so high, and all others a
 /// millimetre lower or more.
 fn crested(kg: i128, stations: &[usize], top: i128) -> Bounds {
-    let first = (top + kg * SINES[stations[0]]) / 100_000;
-    let level = 100_000 * first - kg * SINES[stations[0]];
+    let first = (top + kg * SINES[stations[0]]) / PER_KN;
+    let level = PER_KN * first - kg * SINES[stations[0]];
     let mut bounds = OPEN;
     for station in 1..13 {
-        let as_high = (level + kg * SINES[station]).div_euclid(100_000);
+        let as_high = (level + kg * SINES[station]).div_euclid(PER_KN);
         bounds[station] = if stations.contains(&station) {
             (as_high, as_high)
         } else {
@@ -143,8 +144,8 @@ fn add_angles(cases: &mut Cases) {
     }
 }
 
-/// Equal greatest levers at two stations: the KG is one at which the sines'
-/// difference is a whole number of millimetres.
+/// Equal greatest levers at two stations: the KG, in tenths, is one at which
+/// the sines' difference is a whole number of millimetres.
 pub fn tied(dice: &mut Dice, first: usize, second: usize, kg: i128) -> Vessel {
     let mut vessel = vessel::judged(dice);
     vessel.raise_to(kg);
@@ -153,7 +154,7 @@ pub fn tied(dice: &mut Dice, first: usize, second: usize, kg: i128) -> Vessel {
     vessel
 }
 
-/// Two stations each with equal greatest levers, and the KG.
+/// Two stations each with equal greatest levers, and the KG in millimetres.
 pub const TIES: [(usize, usize, i128); 7] = [
     (3, 5, 5_000),
     (3, 5, 10_000),
@@ -168,7 +169,7 @@ fn add_ties(cases: &mut Cases) {
     for (first, second, kg) in TIES {
         cases.add(
             format!("equal levers at stations {first} and {second}, KG {kg}"),
-            move |dice| tied(dice, first, second, kg).text(dice),
+            move |dice| tied(dice, first, second, TENTHS.of(kg)).text(dice),
         );
     }
     cases.add("all levers 0", |dice| {

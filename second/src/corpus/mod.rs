@@ -20,6 +20,7 @@ mod rows;
 mod sizes;
 mod slips;
 mod solve;
+mod tenths;
 mod timber;
 mod vessel;
 mod winds;
@@ -59,6 +60,7 @@ impl Corpus {
         timber::add(&mut cases);
         booklets::add(&mut cases);
         slips::add(&mut cases);
+        tenths::add(&mut cases);
         let (cases, given) = cases.numbered(small);
         Corpus {
             seed,

@@ -7,6 +7,7 @@ use super::vessel::{self, Vessel};
 use crate::book::Row;
 use crate::line::Point;
 use crate::roll::{keel_index, period, K, S, X1, X2};
+use crate::unit::TENTHS;
 
 pub fn add(cases: &mut Cases) {
     add_proportions(cases);
@@ -38,10 +39,9 @@ pub fn add(cases: &mut Cases) {
             }
         }
     }
-    for gm in [3, 4, 5] {
-        cases.add(format!("narrowest and longest, GM {gm}"), move |dice| {
-            slowest(dice, gm).text(dice)
-        });
+    for gm in [30, 37, 38] {
+        let name = format!("narrowest and longest, GM {gm} tenths");
+        cases.add(name, move |dice| slowest(dice, gm).text(dice));
     }
 }
 
@@ -73,28 +73,27 @@ fn add_proportions(cases: &mut Cases) {
     }
 }
 
-/// KG at 7d/10 and 15d/10 and one beside, where the tenths come out even and
-/// where they do not.
+/// KG at 7d and 15d in tenths, one beside and a millimetre beyond, where it
+/// comes out whole there and where it does not; and around the waterline.
 fn add_heights(cases: &mut Cases) {
     for draught in [4_000, 4_001, 4_003] {
-        for tenths in [7, 15] {
-            for beside in [-1, 0, 1, 2] {
-                cases.add(
-                    format!("KG {tenths}d/10 {beside:+} at d {draught}"),
-                    move |dice| {
-                        let mut vessel = vessel::judged_at(dice, draught, 2_600);
-                        vessel.raise_to(tenths * draught / 10 + beside);
-                        vessel.text(dice)
-                    },
-                );
+        for (times, besides) in [(7, [-10, -1, 0, 1]), (15, [-1, 0, 1, 10])] {
+            for beside in besides {
+                let name = format!("KG {times}d {beside:+} tenths at d {draught}");
+                cases.add(name, move |dice| {
+                    let mut vessel = vessel::judged_at(dice, draught, 2_600);
+                    vessel.raise_to(times * draught + beside);
+                    vessel.text(dice)
+                });
             }
         }
     }
-    for beside in [-2, -1, 0, 1, 2] {
-        cases.add(format!("KG {beside:+} from the waterline"), move |dice| {
+    for beside in [-10, -1, 0, 1, 10] {
+        let name = format!("KG {beside:+} tenths from the waterline");
+        cases.add(name, move |dice| {
             let mut vessel = vessel::judged(dice);
             let waterline = vessel.laden().draught;
-            vessel.raise_to(waterline + beside);
+            vessel.raise_to(TENTHS.of(waterline) + beside);
             vessel.text(dice)
         });
     }
@@ -107,16 +106,16 @@ pub fn with_period(dice: &mut Dice, n: i128) -> Vessel {
     let base = vessel.ship.length;
     for longer in 0..3_000 {
         vessel.ship.length = base + 29 * longer;
-        let (mut low, mut high) = (1, 60_000 - vessel.kg);
+        let (mut low, mut high) = (1, TENTHS.of(60_000 - vessel.kg));
         while low < high {
             let middle = (low + high) / 2;
-            if period(&vessel.ship, draught, middle) > n {
+            if period(&vessel.ship, draught, middle, TENTHS) > n {
                 low = middle + 1;
             } else {
                 high = middle;
             }
         }
-        if period(&vessel.ship, draught, low) == n {
+        if period(&vessel.ship, draught, low, TENTHS) == n {
             vessel.set_gm(low);
             return vessel;
         }
@@ -145,7 +144,8 @@ fn slowest(dice: &mut Dice, gm: i128) -> Vessel {
     vessel.ship.breadth = 3_000;
     vessel.kg = dice.between(21_000, 29_000);
     let (kg, kn) = (vessel.kg, vessel.laden().kn.clone());
-    let km = kg + gm;
+    vessel.set_gm(gm);
+    let km = vessel.laden().km;
     let steady = kn.iter().zip(crate::curve::SINES);
     let kn: Vec<i128> = steady
         .map(|(form, sine)| form / 10 + kg * sine / 100_000)

@@ -93,8 +93,8 @@ fn sloped(dice: &mut Dice, rising: bool, part: i128) -> Vec<u8> {
     vessel.text(dice)
 }
 
-/// Corrected KG of 60,000 and 60,001 by a free surface, by heights alone,
-/// and KG rounded up by the least there can be.
+/// Corrected KG of 60,000 mm and just beside it by a free surface, by heights
+/// alone, and KG rounded up by the least there can be.
 fn add_highest(cases: &mut Cases) {
     for beside in [-1, 0, 1] {
         for whole in [1, 2] {

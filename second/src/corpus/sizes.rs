@@ -16,7 +16,8 @@ pub fn add(cases: &mut Cases) {
         });
     }
     for fault in [Fault::PastParent, Fault::BodyShort, Fault::Value] {
-        cases.add(format!("41st row {fault:?}"), move |dice| {
+        let spared = fault != Fault::PastParent;
+        cases.add_spared(spared, format!("41st row {fault:?}"), move |dice| {
             let vessel = vessel::any(dice, 41);
             let mut draft = vessel.draft(vessel::level(dice, vessel.mass, vessel.kg));
             apply(dice, &mut draft, &[41], fault);
@@ -63,14 +64,14 @@ pub fn entries(dice: &mut Dice, count: usize) -> Draft {
 
 /// 200 entries and one more, with a fault of its own or without.
 fn add_201st(cases: &mut Cases) {
-    for fault in [
-        None,
-        Some(Fault::PastAll),
-        Some(Fault::Tag),
-        Some(Fault::BodyShort),
-        Some(Fault::Value),
+    for (fault, spared) in [
+        (None, true),
+        (Some(Fault::PastAll), false),
+        (Some(Fault::Tag), false),
+        (Some(Fault::BodyShort), true),
+        (Some(Fault::Value), true),
     ] {
-        cases.add(format!("201st entry {fault:?}"), move |dice| {
+        cases.add_spared(spared, format!("201st entry {fault:?}"), move |dice| {
             let vessel = vessel::any(dice, 2);
             let mut draft = vessel.draft(vec![item(0, 5); 201]);
             if let Some(fault) = fault {

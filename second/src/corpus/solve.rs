@@ -9,10 +9,14 @@ use crate::criteria::Judgement;
 use crate::curve::{Curve, SINES};
 use crate::instrument::judge_text;
 use crate::loading::Laden;
+use crate::unit::TENTHS;
 
 pub type Weights = [i128; 13];
 
 const MOST_KN: i128 = 30_000;
+
+/// What a millimetre of KN is in g, where a tenth of KG is a sine.
+pub const PER_KN: i128 = TENTHS.of(100_000);
 
 /// The weights of y(t), so many times, with y(-t) = -y(t).
 fn add_lever(weights: &mut Weights, t: i128, times: i128) {
@@ -51,6 +55,7 @@ pub fn sine_sum(weights: &Weights) -> i128 {
 /// The curve whose g is the sine: its areas are the sine sums of areas.
 pub fn sine_curve() -> Curve {
     Curve::of(&Laden {
+        unit: TENTHS,
         displacement: 1,
         kg: -1,
         draught: 1,
@@ -67,23 +72,49 @@ fn common_divisor(a: i128, b: i128) -> i128 {
     }
 }
 
+/// Every KG from the least to the most, in tenths, at which KN values of whole
+/// millimetres can give the figure to a sum with this sine sum.
+pub fn reachable(figure: i128, sines: i128, least: i128, most: i128) -> impl Iterator<Item = i128> {
+    let divisor = common_divisor(sines, PER_KN);
+    let step = PER_KN / divisor;
+    let first = (figure % divisor == 0).then(|| {
+        let met = -figure / divisor * inverse(sines / divisor, step);
+        least + (met - least).rem_euclid(step)
+    });
+    let all = first
+        .into_iter()
+        .flat_map(move |first| (0..).map(move |turn| first + turn * step));
+    all.take_while(move |&kg| kg <= most)
+}
+
+/// The number that gives 1 with another, which has no divisor in common with
+/// the modulus.
+fn inverse(number: i128, modulus: i128) -> i128 {
+    let (mut last, mut now) = ((modulus, 0), (number.rem_euclid(modulus), 1));
+    while now.0 > 0 {
+        let times = last.0 / now.0;
+        (last, now) = (now, (last.0 - times * now.0, last.1 - times * now.1));
+    }
+    last.1.rem_euclid(modulus)
+}
+
 /// What the weighted sum of KN must be for the figure, if whole numbers can
 /// give it at this KG with the free stations from `from` on.
 fn kn_sum(weights: &Weights, kn: &[i128], kg: i128, figure: i128, from: usize) -> Option<i128> {
     let needed = figure + kg * sine_sum(weights);
-    if needed % 100_000 != 0 {
+    if needed % PER_KN != 0 {
         return None;
     }
     let sum: i128 = weights.iter().zip(kn).map(|(weight, kn)| weight * kn).sum();
     let divisor = weights[from..]
         .iter()
         .fold(0, |all, &weight| common_divisor(all, weight));
-    let missing = needed / 100_000 - sum;
+    let missing = needed / PER_KN - sum;
     (divisor != 0 && missing % divisor == 0).then_some(missing)
 }
 
 /// Changes KN from station `from` on so that the weighted sum of g is the
-/// figure: by a straight slope, which bends the row at its beginning alone,
+/// figure at this KG, in tenths: by a straight slope, which bends the row at its beginning alone,
 /// and by little at single stations for the rest. False if it cannot be done
 /// with a smooth row within KN's limits.
 pub fn fit(row: &mut Row, weights: &Weights, kg: i128, figure: i128, from: usize) -> bool {
@@ -155,8 +186,9 @@ pub struct Search {
     pub prepare: fn(&mut Vessel),
 }
 
-/// How far KG may go from the vessel's own: near first, then anywhere.
-const REACHES: [i128; 2] = [700, 24_000];
+/// How far KG may go from the vessel's own, in tenths: near first, then
+/// anywhere.
+const REACHES: [i128; 2] = [7_000, 240_000];
 
 impl Search {
     pub fn vessel(&self, dice: &mut Dice, base: &Vessel, wanted: i128) -> Option<Vessel> {
@@ -171,9 +203,9 @@ impl Search {
 
     fn at(&self, base: &Vessel, flooding: i128, reach: i128, wanted: i128) -> Option<Vessel> {
         let weights = (self.weights)(flooding);
-        let sines = sine_sum(&weights);
-        let reachable = |kg: &i128| (wanted + kg * sines) % 100_000 == 0;
-        for kg in ((base.kg - reach).max(0)..=base.kg + reach).filter(reachable) {
+        let own = base.kg_in_tenths();
+        let least = (own - reach).max(0);
+        for kg in reachable(wanted, sine_sum(&weights), least, own + reach) {
             let mut vessel = base.clone();
             vessel.raise_to(kg);
             vessel.weather.flooding = flooding;
@@ -188,8 +220,29 @@ impl Search {
     }
 }
 
-/// What the judge says of the vessel with its whole mass at KG.
+/// What the judge says of the vessel with its mass at KG.
 pub fn figures(vessel: &Vessel) -> Option<Judgement> {
-    let entries = vec![super::draft::item(vessel.mass, vessel.kg)];
-    judge_text(&vessel.draft(entries).text()).ok()
+    judge_text(&vessel.draft(vessel.items()).text()).ok()
+}
+
+#[cfg(test)]
+mod tests {
+    use super::*;
+
+    /// Every KG that is found gives a whole KN, and no other does.
+    #[test]
+    fn reachable_heights_are_found() {
+        for (figure, sines) in [
+            (7, 8_716),
+            (-1, 12_345_677),
+            (-8, 868),
+            (0, 50_000),
+            (3, -909),
+        ] {
+            let holds = |kg: &i128| (figure + kg * sines) % PER_KN == 0;
+            let (least, most) = (20_000, 1_300_000);
+            let by_hand: Vec<i128> = (least..=most).filter(holds).collect();
+            assert!(reachable(figure, sines, least, most).eq(by_hand));
+        }
+    }
 }

@@ -13,13 +13,13 @@ use crate::instrument::{answer, judge_text, judgements, Call};
 use crate::refusal::Refusal;
 use crate::stream::write_call;
 
-const SYSTEMATIC: usize = 2_964;
-const SYSTEMATIC_SMALL: usize = 2_412;
+const SYSTEMATIC: usize = 3_006;
+const SYSTEMATIC_SMALL: usize = 2_436;
 const TWINS: usize = 51;
 const STORED_SEED: u64 = 20_261_115;
 /// The bytes of both stored files are fewer.
 const STORED_MOST: usize = 2_000_000;
-const STORED_COUNT: u64 = 2_472;
+const STORED_COUNT: u64 = 2_496;
 
 pub fn named(corpus: &Corpus, name: &str) -> Call {
     let number = corpus.cases.iter().position(|case| case.name == name);
@@ -38,6 +38,11 @@ pub fn seeds() -> impl Iterator<Item = Corpus> {
     (1..=6).map(|seed| Corpus::new(seed, false))
 }
 
+/// The same and the corpus that is stored, for cases that it must have.
+pub fn with_stored() -> impl Iterator<Item = Corpus> {
+    seeds().chain([Corpus::new(STORED_SEED, true)])
+}
+
 #[test]
 fn the_number_of_systematic_cases() {
     assert_eq!(Corpus::new(1, false).cases.len(), SYSTEMATIC);
@@ -47,12 +52,12 @@ fn the_number_of_systematic_cases() {
 #[test]
 fn figures_equal_to_their_limits_pass_and_one_less_fails() {
     let limits = [
-        (1, 3, 315_126_800_000),
-        (2, 4, 171_887_400_000),
-        (3, 5, 515_662_100_000),
-        (4, 6, 1_000_000_000),
+        (1, 3, 3_151_268_000_000),
+        (2, 4, 1_718_874_000_000),
+        (3, 5, 5_156_621_000_000),
+        (4, 6, 10_000_000_000),
     ];
-    for corpus in seeds() {
+    for corpus in with_stored() {
         for (number, figure, limit) in limits {
             for (beside, verdict) in [(-1, FAIL), (0, PASS), (1, PASS)] {
                 let judged = judged(&corpus, &format!("criterion {number} limit {beside:+}"));
@@ -60,8 +65,8 @@ fn figures_equal_to_their_limits_pass_and_one_less_fails() {
                 assert_eq!(judged.verdicts[number - 1], verdict);
             }
         }
-        for (gm, verdict) in [(149, FAIL), (150, PASS)] {
-            let judged = judged(&corpus, &format!("GM {gm}"));
+        for (gm, verdict) in [(-1, FAIL), (1_499, FAIL), (1_500, PASS), (1_501, PASS)] {
+            let judged = judged(&corpus, &format!("GM {gm} tenths"));
             assert_eq!((judged.figures[2], judged.verdicts[5]), (gm, verdict));
         }
     }
@@ -69,7 +74,7 @@ fn figures_equal_to_their_limits_pass_and_one_less_fails() {
 
 #[test]
 fn winds_are_what_they_are_named() {
-    for corpus in seeds() {
+    for corpus in with_stored() {
         for (heel, edge, verdict) in [(160, 199, FAIL), (160, 200, PASS), (161, 600, FAIL)] {
             let judged = judged(&corpus, &format!("phi0 {heel} deck edge {edge}"));
             assert_eq!((judged.figures[8], judged.verdicts[6]), (heel, verdict));
@@ -94,21 +99,23 @@ fn criterion_8_is_judged_up_to_its_edges() {
         ("B 14000 at d 4000", false),
         ("B 14003 at d 4001", true),
         ("B 14004 at d 4001", false),
-        ("KG 7d/10 -1 at d 4000", false),
-        ("KG 7d/10 +0 at d 4000", true),
-        ("KG 7d/10 +0 at d 4001", false),
-        ("KG 7d/10 +1 at d 4001", true),
-        ("KG 15d/10 +0 at d 4000", true),
-        ("KG 15d/10 +1 at d 4000", false),
-        ("KG 15d/10 +0 at d 4001", true),
-        ("KG 15d/10 +1 at d 4001", false),
+        ("KG 7d -10 tenths at d 4000", false),
+        ("KG 7d -1 tenths at d 4000", false),
+        ("KG 7d +0 tenths at d 4000", true),
+        ("KG 7d -1 tenths at d 4001", false),
+        ("KG 7d +0 tenths at d 4001", true),
+        ("KG 15d +0 tenths at d 4000", true),
+        ("KG 15d +1 tenths at d 4000", false),
+        ("KG 15d +10 tenths at d 4000", false),
+        ("KG 15d +0 tenths at d 4001", true),
+        ("KG 15d +1 tenths at d 4001", false),
         ("period 1999", true),
         ("period 2000", false),
-        ("GM 0", false),
-        ("narrowest and longest, GM 3", false),
-        ("narrowest and longest, GM 4", true),
+        ("GM 0 tenths", false),
+        ("narrowest and longest, GM 37 tenths", false),
+        ("narrowest and longest, GM 38 tenths", true),
     ];
-    for corpus in seeds() {
+    for corpus in with_stored() {
         for (name, is_judged) in edges {
             assert_eq!(
                 judged(&corpus, name).verdicts[7] != NOT_JUDGED,
@@ -249,9 +256,9 @@ fn the_planners_tank_decides() {
             ["C3", "C5"].map(|kind| judged(&corpus, &format!("planner's tank{name} as {kind}")))
         };
         let [tank, cargo] = both("");
-        assert!((200..=206).contains(&(cargo.figures[1] - tank.figures[1])));
-        for (gm, verdict) in [(149, FAIL), (150, PASS)] {
-            let [tank, cargo] = both(&format!(", GM {gm} with its surface"));
+        assert!((2_000..=2_051).contains(&(cargo.figures[1] - tank.figures[1])));
+        for (gm, verdict) in [(1_499, FAIL), (1_500, PASS)] {
+            let [tank, cargo] = both(&format!(", GM {gm} tenths with its surface"));
             assert_eq!((cargo.figures[2], cargo.verdicts[5]), (gm, verdict));
             assert_eq!(tank.verdicts[5], PASS);
         }
@@ -262,11 +269,11 @@ fn the_planners_tank_decides() {
         }
         for fill in [1, 980, 985, 1_000] {
             let name = |beside: i128| format!("KG 60,000 by fill {fill} {beside:+} as C5");
-            assert_eq!(judged(&corpus, &name(0)).figures[1], 60_000);
+            assert_eq!(judged(&corpus, &name(0)).figures[1], 600_000);
             assert_eq!(refused(&corpus, &name(1)), Some(Refusal::of_loading(8)));
         }
         let greatest = [59_666, 59_667].map(|at| format!("greatest cargo tank at {at}"));
-        assert_eq!(judged(&corpus, &greatest[0]).figures[1], 60_000);
+        assert_eq!(judged(&corpus, &greatest[0]).figures[1], 599_994);
         assert_eq!(refused(&corpus, &greatest[1]), Some(Refusal::of_loading(8)));
     }
 }

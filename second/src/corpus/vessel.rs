@@ -6,7 +6,9 @@ use super::draft::{self, Block, Draft};
 use super::mend::{mend, OPEN};
 use crate::book::{Row, Ship, Weather};
 use crate::curve::SINES;
+use crate::line::up;
 use crate::sets::{CriteriaSet, CODE, SETS};
+use crate::unit::TENTHS;
 
 #[derive(Clone, Debug)]
 pub struct Vessel {
@@ -15,7 +17,9 @@ pub struct Vessel {
     pub criteria: &'static CriteriaSet,
     pub weather: Weather,
     pub mass: i128,
+    /// KG in whole millimetres, and how many tenths of one it is above that.
     pub kg: i128,
+    pub tenths: i128,
 }
 
 /// What KN has beyond KM x sine, in thousandths of its amplitude.
@@ -63,9 +67,47 @@ impl Vessel {
         other
     }
 
-    /// The text with the whole mass at the height of KG.
+    /// The text with the mass at the height of KG.
     pub fn text(&self, dice: &mut Dice) -> Vec<u8> {
-        self.draft(level(dice, self.mass, self.kg)).text()
+        let [lower, higher] = self.parts();
+        let mut entries = level(dice, lower, self.kg);
+        entries.extend(self.above(higher));
+        self.draft(entries).text()
+    }
+
+    /// The mass as one item, or as two where KG has tenths.
+    pub fn items(&self) -> Vec<Block> {
+        let [lower, higher] = self.parts();
+        let mut entries = vec![draft::item(lower, self.kg)];
+        entries.extend(self.above(higher));
+        entries
+    }
+
+    /// The mass at a whole number of millimetres, and that which is one higher
+    /// for the sake of KG's tenths.
+    fn parts(&self) -> [i128; 2] {
+        let higher = self.mass * self.tenths / 10;
+        [self.mass - higher, higher]
+    }
+
+    fn above(&self, higher: i128) -> Option<Block> {
+        (higher > 0).then(|| draft::item(higher, self.kg + 1))
+    }
+
+    pub fn kg_in_tenths(&self) -> i128 {
+        TENTHS.of(self.kg) + self.tenths
+    }
+
+    pub fn set_kg(&mut self, tenths: i128) {
+        self.kg = tenths.div_euclid(10);
+        self.tenths = tenths.rem_euclid(10);
+    }
+
+    /// The same vessel with another KG, in tenths.
+    pub fn at_kg(&self, tenths: i128) -> Vessel {
+        let mut vessel = self.clone();
+        vessel.set_kg(tenths);
+        vessel
     }
 
     /// The row that the mass stands on, or the last one.
@@ -78,17 +120,21 @@ impl Vessel {
         &mut self.rows[found.unwrap_or(last)]
     }
 
-    /// Gives the laden row the KM that makes GM what is asked.
+    /// Gives the laden row a KM and KG its tenths so that GM is what is asked,
+    /// in tenths of a millimetre.
     pub fn set_gm(&mut self, gm: i128) {
-        let km = self.kg + gm;
+        let whole = up(gm, 10);
+        self.tenths = TENTHS.of(whole) - gm;
+        let km = self.kg + whole;
         self.laden().km = km;
     }
 
-    /// Another KG, with KM and KN of the laden row raised along with it so
-    /// that GM and the curve stay about the same.
-    pub fn raise_to(&mut self, kg: i128) {
-        let lift = kg - self.kg;
-        self.kg = kg;
+    /// Another KG, in tenths of a millimetre, with KM and KN of the laden row
+    /// raised along with it so that GM and the curve stay about the same.
+    pub fn raise_to(&mut self, tenths: i128) {
+        let before = self.kg;
+        self.set_kg(tenths);
+        let lift = self.kg - before;
         let row = self.laden();
         row.km = (row.km + lift).clamp(0, 60_000);
         for (kn, sine) in row.kn.iter_mut().zip(SINES).skip(1) {
@@ -221,6 +267,7 @@ pub fn any(dice: &mut Dice, count: usize) -> Vessel {
         weather,
         mass,
         kg: (km - gm).clamp(0, 60_000),
+        tenths: 0,
     }
 }
 
@@ -264,6 +311,7 @@ pub fn judged_at(dice: &mut Dice, draught: i128, fullness: i128) -> Vessel {
         weather,
         mass,
         kg,
+        tenths: 0,
     };
     vessel.vary_rows(dice);
     vessel.mass = vessel.rows[dice.index(vessel.rows.len())].displacement;

@@ -5,7 +5,7 @@
 use super::cases::Cases;
 use super::dice::Dice;
 use super::mend::{mend, OPEN};
-use super::solve::{area, figures, fit, lever, sine_curve, sine_sum};
+use super::solve::{area, figures, fit, lever, reachable, sine_curve, sine_sum};
 use super::vessel::{self, Vessel};
 use crate::criteria::{Gust, Wind};
 use crate::curve::{Curve, SINES, Y_PER_MILLIMETRE};
@@ -33,7 +33,7 @@ pub fn add(cases: &mut Cases) {
     }
     for beside in [-1, 0, 1] {
         cases.add(format!("lever exact {beside:+}"), move |dice| {
-            let (mut vessel, lever) = exact(dice);
+            let (mut vessel, lever) = exact(dice, 0);
             blow(&mut vessel, lever + beside);
             vessel.text(dice)
         });
@@ -75,10 +75,9 @@ pub struct Sailing {
     pub gust: Option<Gust>,
 }
 
-/// A vessel under its wind, with its whole mass at KG.
-fn sail(vessel: &Vessel) -> Option<Sailing> {
-    let entries = vec![super::draft::item(vessel.mass, vessel.kg)];
-    sail_text(&vessel.draft(entries).text())
+/// A vessel under its wind, with its mass at KG.
+pub fn sail(vessel: &Vessel) -> Option<Sailing> {
+    sail_text(&vessel.draft(vessel.items()).text())
 }
 
 pub fn sail_text(text: &[u8]) -> Option<Sailing> {
@@ -136,13 +135,14 @@ fn steepen(vessel: &mut Vessel, station: usize) {
     kn[station] = kn[station].max(least);
 }
 
-/// A vessel whose lever at some angle is a whole number of millimetres.
-fn exact(dice: &mut Dice) -> (Vessel, i128) {
+/// A vessel whose lever at its steady heel is a whole number of millimetres,
+/// or so many y units beside that.
+pub fn exact(dice: &mut Dice, beside: i128) -> (Vessel, i128) {
     let mut vessel = vessel::judged(dice);
     for _ in 0..TRIES {
         let turn = dice.between(0, 140);
         for t in (0..=140).map(|step| 20 + (turn + step) % 141) {
-            if let Some(found) = exact_at(&vessel, t) {
+            if let Some(found) = exact_at(&vessel, t, beside) {
                 return found;
             }
         }
@@ -151,21 +151,31 @@ fn exact(dice: &mut Dice) -> (Vessel, i128) {
     (vessel, 10)
 }
 
-fn exact_at(base: &Vessel, t: i128) -> Option<(Vessel, i128)> {
+/// The same at this angle, which is the steady heel, or the tenth before it
+/// where the lever falls short.
+pub fn exact_at(base: &Vessel, t: i128, beside: i128) -> Option<(Vessel, i128)> {
     let weights = lever(t);
-    let sines = sine_sum(&weights);
-    for kg in (base.kg - 300..=base.kg + 300).filter(|kg| kg * sines % 100_000 == 0) {
+    let own = base.kg_in_tenths();
+    let near = EXACT_REACHES.map(|reach| (own - reach).max(0)..=own + reach);
+    let heights = near
+        .into_iter()
+        .flat_map(|near| reachable(beside, sine_sum(&weights), *near.start(), *near.end()));
+    for kg in heights {
         let mut vessel = base.clone();
-        vessel.kg = kg;
+        vessel.raise_to(kg);
         let millimetres = sail(&vessel)?.curve.y(t) / Y_PER_MILLIMETRE;
-        let figure = millimetres * Y_PER_MILLIMETRE;
+        let figure = millimetres * Y_PER_MILLIMETRE + beside;
         let fits = fit(vessel.laden(), &weights, kg, figure, 1);
-        if fits && blow(&mut vessel, millimetres) && sail(&vessel)?.wind.phi0 == Some(t) {
+        let heel = t + i128::from(beside < 0);
+        if fits && blow(&mut vessel, millimetres) && sail(&vessel)?.wind.phi0 == Some(heel) {
             return Some((vessel, millimetres));
         }
     }
     None
 }
+
+/// How far KG may go for a lever, in tenths.
+const EXACT_REACHES: [i128; 2] = [3_000, 60_000];
 
 /// Winds that leave no phi0 or no u, by how much each is stronger than the
 /// greatest lever.
@@ -302,10 +312,8 @@ pub fn net(dice: &mut Dice, wanted: i128) -> Vessel {
     for _ in 0..TRIES {
         vessel.weather.flooding = 500;
         if balanced(&mut vessel) {
-            for kg in vessel.kg - 250..=vessel.kg + 250 {
-                if let Some(found) = net_at(&vessel, kg, wanted, &sines) {
-                    return found;
-                }
+            if let Some(found) = net_near(&vessel, wanted, &sines) {
+                return found;
             }
         }
         vessel = vessel::judged(dice);
@@ -314,26 +322,39 @@ pub fn net(dice: &mut Dice, wanted: i128) -> Vessel {
     vessel
 }
 
-fn net_at(base: &Vessel, kg: i128, wanted: i128, sines: &Curve) -> Option<Vessel> {
-    let mut vessel = base.clone();
-    vessel.kg = kg;
-    let sailing = sail(&vessel)?;
-    let start = sailing.gust?.start;
-    let gust_y = sailing.wind.gust_lever * Y_PER_MILLIMETRE;
-    let whole = |end: i128| wanted + 2 * gust_y * (end - start);
-    let reachable = |&end: &i128| (whole(end) + kg * sines.area(start, end)) % 100_000 == 0;
-    for end in (350..=500).filter(reachable) {
-        let mut tried = vessel.clone();
-        tried.weather.flooding = end;
-        let fits = fit(tried.laden(), &area(start, end), kg, whole(end), 5);
-        let gust = if fits {
-            sail(&tried).and_then(|sailing| sailing.gust)
-        } else {
-            None
-        };
-        if gust.is_some_and(|gust| gust.net == wanted) {
-            return Some(tried);
-        }
-    }
-    None
+/// How far KG may go from the vessel's own for a net area, in tenths.
+const NET_REACH: i128 = 2_500;
+
+/// The vessel at another KG and flooding angle, with this net area: for every
+/// start of the roll that there is within reach.
+fn net_near(base: &Vessel, wanted: i128, sines: &Curve) -> Option<Vessel> {
+    let own = base.kg_in_tenths();
+    let (lowest, highest) = (own - NET_REACH, own + NET_REACH);
+    let starts = [lowest, own, highest].map(|kg| Some(sail(&base.at_kg(kg))?.gust?.start));
+    let first = starts.into_iter().flatten().min()?;
+    let last = starts.into_iter().flatten().max()?;
+    let gust_y = sail(base)?.wind.gust_lever * Y_PER_MILLIMETRE;
+    let turns = (first..=last).flat_map(|start| (350..=500).map(move |end| (start, end)));
+    turns
+        .flat_map(|(start, end)| {
+            let whole = wanted + 2 * gust_y * (end - start);
+            let heights = reachable(whole, sines.area(start, end), lowest, highest);
+            heights.map(move |kg| (base.at_kg(kg), (start, end), whole))
+        })
+        .find_map(|(vessel, turn, whole)| net_at(vessel, turn, whole, wanted))
+}
+
+/// The vessel with KN solved for this area from start to end, if the net area
+/// comes out as wanted.
+fn net_at(
+    mut vessel: Vessel,
+    (start, end): (i128, i128),
+    whole: i128,
+    wanted: i128,
+) -> Option<Vessel> {
+    vessel.weather.flooding = end;
+    let kg = vessel.kg_in_tenths();
+    let fits = fit(vessel.laden(), &area(start, end), kg, whole, 5);
+    let gust = if fits { sail(&vessel)?.gust } else { None };
+    (gust?.net == wanted).then_some(vessel)
 }

@@ -8,6 +8,7 @@ use crate::curve::SINES;
 use crate::line::up;
 use crate::loading::laden;
 use crate::sets::CODE;
+use crate::unit::TENTHS;
 
 /// Levers at the stations in thousandths of the greatest.
 type Form = [i128; 13];
@@ -56,7 +57,8 @@ fn weather(dice: &mut Dice, ship: &Ship, draught: i128) -> Weather {
     }
 }
 
-/// Two items, so that KG is hardly ever a whole number of millimetres.
+/// Two items, so that KG is hardly ever a whole number of tenths, and KG in
+/// millimetres, rounded up.
 fn entries(dice: &mut Dice, mass: i128, kg: i128) -> (Vec<Entry>, i128) {
     let part = dice.between(1, mass / 2);
     let (low, high) = (kg - dice.between(0, 400), kg + dice.between(0, 900));
@@ -129,14 +131,12 @@ pub fn clean(dice: &mut Dice) -> Option<Document> {
     let mut document = drawn(dice, &SLOW);
     let used = laden(&document).ok()?;
     let mass = used.displacement;
-    document.condition.entries = vec![Entry::Item(Weight {
-        mass,
-        centre: used.kg,
-    })];
+    let centre = up(used.kg, TENTHS.of(1));
+    document.condition.entries = vec![Entry::Item(Weight { mass, centre })];
     let lower = Row {
         displacement: mass - 97 * (mass / 10_000),
         draught: used.draught,
-        km: used.kg + dice.between(200, 1_500),
+        km: centre + dice.between(200, 1_500),
         kn: used.kn,
     };
     let mut upper = lower.clone();

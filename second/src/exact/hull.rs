@@ -1,12 +1,15 @@
-//! The laden ship and the wind on it, each value exact or rounded.
+//! The laden ship and the wind on it, each value exact or rounded: KG to a
+//! tenth of a millimetre, the others to a whole one.
 
 use super::fraction::Fraction;
 use super::rounding::{Kept, Rounding};
 use crate::book::Document;
 use crate::line::between;
 use crate::loading::{rows_around, sums};
+use crate::unit::TENTHS;
 
 pub struct Hull {
+    /// In tenths of a millimetre.
     pub kg: Fraction,
     pub km: Fraction,
     pub draught: Fraction,
@@ -31,7 +34,7 @@ impl Hull {
         let heeling = 5_040 * weather.wind_area * weather.arm;
         let lw1 = kept.up(Rounding::Lw1, Fraction::of(heeling, 981 * mass));
         Some(Hull {
-            kg: kept.up(Rounding::Kg, Fraction::of(moment, mass)),
+            kg: kept.up(Rounding::Kg, Fraction::of(TENTHS.of(moment), mass)),
             km: at_load(Rounding::Km, lower.km, upper.km),
             draught: at_load(Rounding::Draught, lower.draught, upper.draught),
             kn: kn
@@ -42,7 +45,13 @@ impl Hull {
         })
     }
 
+    /// In tenths of a millimetre.
     pub fn gm(&self) -> Fraction {
-        &self.km - &self.kg
+        &self.km.times(TENTHS.of(1)) - &self.kg
+    }
+
+    /// The draught in tenths of a millimetre.
+    pub fn waterline(&self) -> Fraction {
+        self.draught.times(TENTHS.of(1))
     }
 }

@@ -4,6 +4,7 @@
 use super::fraction::Fraction;
 use super::hull::Hull;
 use crate::curve::{SINES, STEP};
+use crate::unit::TENTHS;
 
 pub struct Levers {
     stations: Vec<Fraction>,
@@ -14,8 +15,9 @@ pub struct Levers {
 
 impl Levers {
     pub fn of(hull: &Hull) -> Levers {
+        let per_kn = TENTHS.of(100_000);
         let lever =
-            |(kn, sine): (&Fraction, i128)| (&kn.times(100_000) - &hull.kg.times(sine)).times(STEP);
+            |(kn, sine): (&Fraction, i128)| (&kn.times(per_kn) - &hull.kg.times(sine)).times(STEP);
         let stations: Vec<Fraction> = hull.kn.iter().zip(SINES).map(lever).collect();
         let mut areas = vec![Fraction::whole(0)];
         for pair in stations.windows(2) {

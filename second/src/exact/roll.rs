@@ -9,6 +9,7 @@ use super::rounding::{Kept, Rounding};
 use crate::book::Document;
 use crate::line::{root_down, root_up, Point};
 use crate::roll::{K, K_OF_SHARP_BILGE, LONGEST_PERIOD, S, X1, X2};
+use crate::unit::TENTHS;
 
 const PARTS: i128 = 10_i128.pow(15);
 
@@ -48,10 +49,11 @@ fn table(points: &[Point], x: &Fraction) -> Fraction {
 pub fn angle(document: &Document, hull: &Hull, kept: Kept) -> Option<Held> {
     let breadth = document.ship.breadth;
     let (kg, d, gm) = (&hull.kg, &hull.draught, hull.gm());
+    let waterline = hull.waterline();
     let outside = gm <= Fraction::whole(0)
         || Fraction::whole(10 * breadth) >= d.times(35)
-        || kg.times(10) < d.times(7)
-        || kg.times(10) > d.times(15);
+        || kg.times(10) < waterline.times(7)
+        || kg.times(10) > waterline.times(15);
     if outside {
         return None;
     }
@@ -60,7 +62,7 @@ pub fn angle(document: &Document, hull: &Hull, kept: Kept) -> Option<Held> {
     let n = period(document, &b, &gm, kept)?;
     let s = |n: &Fraction| kept.up(Rounding::S, table(&S, n));
     let p = shape(document, &b, kept);
-    let height = (kg - d).times(600).over(d);
+    let height = (kg - &waterline).times(600).over(&waterline);
     let r = &Fraction::whole(730) + &kept.up(Rounding::R, height);
     let before = (&(&p * &p) * &r).times(1_090 * 1_090);
     let square = |s: &Fraction| (&before * s).part(10_i128.pow(13));
@@ -80,11 +82,11 @@ fn period(document: &Document, b: &Fraction, gm: &Fraction, kept: Kept) -> Optio
     let c = &(&Fraction::whole(373_000) + &b.times(23)) - &long;
     let q = c.times(2 * ship.breadth).part(1_000_000);
     let q = kept.down(Rounding::Q, q);
-    let tenfold = (&q * &q).times(10);
-    if gm.times(LONGEST_PERIOD * LONGEST_PERIOD) <= tenfold {
+    let raised = (&q * &q).times(TENTHS.of(10));
+    if gm.times(LONGEST_PERIOD * LONGEST_PERIOD) <= raised {
         return None;
     }
-    let square = tenfold.over(gm);
+    let square = raised.over(gm);
     if kept.has(Rounding::N) {
         Some(root(&square))
     } else {

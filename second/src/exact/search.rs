@@ -17,7 +17,7 @@ use crate::criteria::{judge_document, PASS, WEATHER_END};
 use crate::curve::Y_PER_MILLIMETRE;
 
 /// A net within reach of the edge: a tenth of a metre-degree.
-const NEAR: i128 = 10_000_000_000;
+const NEAR: i128 = 100_000_000_000;
 
 pub struct Search {
     /// Draws that could not be brought where they were sought.

@@ -18,6 +18,7 @@ use crate::criteria::{judge_document, PASS, UNUSED};
 use crate::curve::{SINES, Y_PER_MILLIMETRE};
 use crate::instrument::{documents, read_text};
 use crate::sets::{CODE, TIMBER};
+use crate::unit::TENTHS;
 
 fn read(text: &str) -> Document {
     read_text(text.as_bytes()).unwrap_or_else(|refusal| panic!("{refusal:?}: {text}"))
@@ -95,14 +96,14 @@ fn whole_values_make_no_difference() {
 fn the_text_that_sags() {
     let document = numbered("10");
     let used = judge_document(&document).expect("it is judged");
-    assert_eq!((used.verdicts, used.figures[10]), ([1; 8], 6_144_000));
+    assert_eq!((used.verdicts, used.figures[10]), ([1; 8], 61_440_000));
     let Weather::Judged(gust) = exact(&document, "angles").weather else {
         panic!("its angles are judged");
     };
     let parts = 26 * 26;
-    let b_less_a = Fraction::of(-192_392_904_000, parts);
+    let b_less_a = Fraction::of(-1_923_929_040_000, parts);
     assert!(gust.net.0 == b_less_a && gust.net.1 == b_less_a);
-    assert_eq!(b_less_a.floor(), -284_604_888);
+    assert_eq!(b_less_a.floor(), -2_846_048_876);
 }
 
 fn file(path: [&str; 2]) -> String {
@@ -424,15 +425,15 @@ fn the_search_counts_texts_that_are_read() {
 #[test]
 fn the_limits_are_stricter_by_so_much() {
     let limits = [
-        (CODE.area_to_30, 55, 12_678),
-        (CODE.area_30_to_40, 30, 61_460),
-        (CODE.area_to_40, 90, 84_382),
-        (TIMBER.area_to_40, 80, 63_895),
+        (CODE.area_to_30, 55, 126_780),
+        (CODE.area_30_to_40, 30, 614_607),
+        (CODE.area_to_40, 90, 843_822),
+        (TIMBER.area_to_40, 80, 638_953),
     ];
     for (limit, thousandths, stricter) in limits {
         for pi in [314_159_265_358_979, 314_159_265_358_980] {
-            let radians = Fraction::of(thousandths * 180 * 10_i128.pow(22), pi);
-            let limit = Fraction::whole(limit.expect("a slot that is used"));
+            let radians = Fraction::of(thousandths * 180 * 10_i128.pow(23), pi);
+            let limit = Fraction::whole(TENTHS.of(limit.expect("a slot that is used")));
             assert_eq!((&limit - &radians).floor(), stricter);
         }
     }

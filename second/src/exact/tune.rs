@@ -5,13 +5,14 @@ use super::draw::{clean, early, lift, ordinary, smooth, straighten, swell};
 use super::hull::Hull;
 use super::roll;
 use super::rounding::{Kept, Rounding};
-use crate::book::Document;
+use crate::book::{Document, Entry};
 use crate::corpus::dice::Dice;
 use crate::criteria::{judge_document, Wind, PASS};
 use crate::curve::{Curve, Y_PER_MILLIMETRE};
 use crate::line::down;
 use crate::loading::{laden, Laden};
 use crate::roll::{angle, period};
+use crate::unit::TENTHS;
 
 const MOST_WIND: i128 = 300_000;
 
@@ -244,20 +245,36 @@ pub fn border(dice: &mut Dice) -> Option<Document> {
     let ship_laden = laden(&document).ok()?;
     match dice.index(3) {
         0 => {
-            let (above, below) = dice.pick(&[(2, 3), (10, 7)]);
-            let draught = ship_laden.kg * above / below;
+            let times = dice.pick(&[15, 7]);
+            let kg = nudge(&mut document, |kg| kg % times <= 1)?;
             for row in &mut document.rows {
-                row.draught = row.draught - ship_laden.draught + draught;
+                row.draught = row.draught - ship_laden.draught + kg / times;
             }
         }
         1 => document.ship.breadth = 35 * ship_laden.draught / 10 + dice.between(0, 5),
         _ => {
-            let slow = |gm: &i128| period(&document.ship, ship_laden.draught, *gm) < 2_000;
-            let gm = (1..3_000).find(slow)? - dice.between(0, 1);
+            let slow = |gm: &i128| period(&document.ship, ship_laden.draught, *gm, TENTHS) < 2_000;
+            let gm = (1..TENTHS.of(3_000)).find(slow)? - dice.between(0, 1);
+            let kg = nudge(&mut document, |kg| (kg + gm) % TENTHS.of(1) == 0)?;
             for row in &mut document.rows {
-                row.km = row.km - ship_laden.km + ship_laden.kg + gm;
+                row.km = row.km - ship_laden.km + (kg + gm) / TENTHS.of(1);
             }
         }
     }
     Some(document)
+}
+
+/// Moves the first item by a few millimetres until KG, in tenths, is as wanted,
+/// and gives that KG; none if it is so nowhere near.
+fn nudge(document: &mut Document, wanted: impl Fn(i128) -> bool) -> Option<i128> {
+    let (moved, kg) = (-40..=40).find_map(|millimetres| {
+        let mut moved = document.clone();
+        if let Entry::Item(weight) = &mut moved.condition.entries[0] {
+            weight.centre += millimetres;
+        }
+        let kg = laden(&moved).ok()?.kg;
+        wanted(kg).then_some((moved, kg))
+    })?;
+    *document = moved;
+    Some(kg)
 }

@@ -16,7 +16,7 @@ mod tests;
 
 use super::cases::Cases;
 use super::dice::Dice;
-use super::draft::{item, line, tank, Draft};
+use super::draft::{item, line, tank, Block, Draft};
 use super::faults::{apply, Fault};
 use super::vessel::{self, Vessel};
 use crate::instrument::Call;
@@ -57,6 +57,16 @@ pub fn bound(dice: &mut Dice, vessel: &Vessel, count: usize) -> Draft {
         draft.frames.push(voyage.condition(entries));
     }
     draft
+}
+
+/// Ship, rows and one condition for each list of entries.
+pub fn with_entries(vessel: &Vessel, conditions: Vec<Vec<Block>>) -> Vec<u8> {
+    let mut draft = vessel.hull();
+    let frames = conditions
+        .into_iter()
+        .map(|entries| vessel.condition(entries));
+    draft.frames.extend(frames);
+    draft.text()
 }
 
 /// The bytes of a draft's lines.

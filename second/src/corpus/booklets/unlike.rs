@@ -2,7 +2,7 @@
 //! them with what it has of the first, or goes on with its sums, is found out;
 //! and texts without a condition.
 
-use super::{booklet, coaster, lines_of, text_of};
+use super::{booklet, coaster, lines_of, text_of, with_entries};
 use crate::book::Weather;
 use crate::corpus::cases::Cases;
 use crate::corpus::dice::Dice;
@@ -67,16 +67,6 @@ pub fn add(cases: &mut Cases) {
     add_sums(cases);
     add_depths(cases);
     add_none(cases);
-}
-
-/// Ship, rows and one condition for each list of entries.
-fn with_entries(vessel: &Vessel, conditions: Vec<Vec<Block>>) -> Vec<u8> {
-    let mut draft = vessel.hull();
-    let frames = conditions
-        .into_iter()
-        .map(|entries| vessel.condition(entries));
-    draft.frames.extend(frames);
-    draft.text()
 }
 
 /// Masses and moments that do not go on into the next condition.

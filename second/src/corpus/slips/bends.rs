@@ -9,6 +9,7 @@ use crate::corpus::dice::Dice;
 use crate::corpus::edges::tied;
 use crate::corpus::mend::GREATEST;
 use crate::corpus::vessel::Vessel;
+use crate::unit::TENTHS;
 
 pub fn add(cases: &mut Cases) {
     for station in 1..=11 {
@@ -250,7 +251,7 @@ fn add_sets(cases: &mut Cases) {
     for (first, second, kg) in [(3, 5, 40_000), (5, 7, 37_500)] {
         let name = format!("equal levers at stations {first} and {second}, KG {kg}");
         cases.add_twins(&EITHER, &name, move |dice, set| {
-            let mut vessel = tied(dice, first, second, kg);
+            let mut vessel = tied(dice, first, second, TENTHS.of(kg));
             vessel.criteria = set;
             vessel.text(dice)
         });

@@ -217,7 +217,10 @@ fn what_lies_between_two_rows_is_not_tested() {
                 let name =
                     format!("equal levers at stations {first} and {second}, KG {kg} as {tag}");
                 let judged = judged(&corpus, &name);
-                assert_eq!((judged.figures[1], judged.figures[7]), (kg, 50 * first));
+                assert_eq!(
+                    (judged.figures[1], judged.figures[7]),
+                    (10 * kg, 50 * first)
+                );
             }
         }
     }
@@ -424,7 +427,7 @@ fn slips_in_a_small_corpus() {
     ]));
 }
 
-/// One text in twelve or more has a slip: refused for it, and for what goes
+/// One text in fourteen or more has a slip: refused for it, and for what goes
 /// before it.
 #[test]
 fn chance_makes_slips() {
@@ -435,7 +438,7 @@ fn chance_makes_slips() {
             .map(|number| corpus.call(number))
             .filter(|call| !slips(&call.text).is_empty())
             .collect();
-        assert!((200..600).contains(&calls.len()), "{}", calls.len());
+        assert!((171..600).contains(&calls.len()), "{}", calls.len());
         let said: Vec<Option<Refusal>> = calls.iter().map(|call| judgements(call).err()).collect();
         let count = |number: u8| {
             let refused = said.iter().flatten();

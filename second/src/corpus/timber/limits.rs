@@ -8,11 +8,12 @@ use crate::corpus::solve::{lever, Search};
 use crate::corpus::vessel::{self, Vessel};
 use crate::corpus::winds::heeled;
 use crate::sets::TIMBER;
+use crate::unit::TENTHS;
 
 pub fn add(cases: &mut Cases) {
     add_solved(cases);
-    for gm in [-1, 0, 1, 99, 100, 101, 149, 150] {
-        add_either(cases, &format!("timber GM {gm}"), move |dice| {
+    for gm in [-1, 0, 1, 999, 1_000, 1_001, 1_499, 1_500] {
+        add_either(cases, &format!("timber GM {gm} tenths"), move |dice| {
             let mut vessel = vessel::judged(dice);
             vessel.set_gm(gm);
             vessel
@@ -100,7 +101,7 @@ fn add_solved(cases: &mut Cases) {
         ("criterion 4 late", &LATE, &LATE, TIMBER.greatest_lever),
         ("criterion 4 early", &EARLY, &EARLIER, TIMBER.greatest_lever),
     ] {
-        let limit = limit.unwrap_or_default();
+        let limit = TENTHS.of(limit.unwrap_or_default());
         for (search, off) in [(beside, -1), (exact, 0), (beside, 1)] {
             let name = format!("timber {name} limit {off:+}");
             add_either(cases, &name, move |dice| solved(dice, search, limit + off));
@@ -142,7 +143,9 @@ fn add_ties(cases: &mut Cases) {
         (5, 6, 0),
     ] {
         let name = format!("timber equal levers at stations {first} and {second}, KG {kg}");
-        add_either(cases, &name, move |dice| tied(dice, first, second, kg));
+        add_either(cases, &name, move |dice| {
+            tied(dice, first, second, TENTHS.of(kg))
+        });
     }
     add_either(cases, "timber levers below 0", |dice| {
         let fall = std::array::from_fn(|station| -4 * station as i128);

@@ -26,7 +26,11 @@ pub fn add(cases: &mut Cases) {
 static EITHER: [(&str, &CriteriaSet); 2] = [("C1", &CODE), ("C6", &TIMBER)];
 
 /// A text by each set, with the same ship and the same values.
-fn add_either(cases: &mut Cases, name: &str, make: impl Fn(&mut Dice) -> Vessel + Copy + 'static) {
+pub fn add_either(
+    cases: &mut Cases,
+    name: &str,
+    make: impl Fn(&mut Dice) -> Vessel + Copy + 'static,
+) {
     cases.add_twins(&EITHER, name, move |dice, set| {
         let mut vessel = make(dice);
         vessel.criteria = set;
@@ -35,10 +39,10 @@ fn add_either(cases: &mut Cases, name: &str, make: impl Fn(&mut Dice) -> Vessel 
 }
 
 /// Levers at the stations in whole millimetres.
-type Levers = [i128; 13];
+pub type Levers = [i128; 13];
 
 /// Gives the vessel these levers, each more by less than a millimetre.
-fn shape(vessel: &mut Vessel, levers: &Levers) {
+pub fn shape(vessel: &mut Vessel, levers: &Levers) {
     let kg = vessel.kg;
     let kn = &mut vessel.laden().kn;
     for station in 1..13 {

@@ -10,6 +10,7 @@ use crate::corpus::rolls::with_period;
 use crate::corpus::vessel::{self, Vessel};
 use crate::corpus::winds::{blow, ended, net, overblown, ENDS, NONE};
 use crate::sets::TIMBER;
+use crate::unit::TENTHS;
 
 pub fn add(cases: &mut Cases) {
     add_alone(cases);
@@ -31,7 +32,7 @@ fn fair(dice: &mut Dice, levers: &Levers, flooding: i128) -> Vessel {
     }
     let mut vessel = shaped(dice, &levers, flooding);
     let gm = dice.between(700, 1_000);
-    vessel.set_gm(gm);
+    vessel.set_gm(TENTHS.of(gm));
     vessel.weather.deck_edge = 400;
     blow(&mut vessel, 15);
     vessel
@@ -65,7 +66,7 @@ const ALONE: [(&str, Draw); 10] = [
     }),
     ("fails by the Code in slot 6 alone", |dice| {
         let mut vessel = fair(dice, &SOUND, 600);
-        let gm = dice.between(100, 149);
+        let gm = dice.between(1_000, 1_499);
         vessel.set_gm(gm);
         vessel
     }),
@@ -144,8 +145,8 @@ fn add_unjudged(cases: &mut Cases) {
             vessel
         });
     }
-    for kg in [2_799, 2_800, 6_000, 6_001] {
-        let name = format!("timber KG {kg} at d 4000");
+    for kg in [27_999, 28_000, 60_000, 60_001] {
+        let name = format!("timber KG {kg} tenths at d 4000");
         add_either(cases, &name, move |dice| {
             let mut vessel = vessel::judged_at(dice, 4_000, 2_600);
             vessel.raise_to(kg);
@@ -170,8 +171,8 @@ fn add_tanks(cases: &mut Cases) {
             draft.judged_by(&TIMBER).text()
         });
     }
-    for gm in [99, 100] {
-        let name = format!("timber planner's tank, GM {gm} with its surface");
+    for gm in [999, 1_000] {
+        let name = format!("timber planner's tank, GM {gm} tenths with its surface");
         cases.add_twins(&cargo::EITHER, &name, move |dice, kind| {
             let (vessel, inertia) = left_with(dice, &TIMBER, gm);
             planned(&vessel, inertia, kind)

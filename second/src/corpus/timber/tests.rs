@@ -1,14 +1,14 @@
 //! The timber cases are what their names say, by the numbers of the request
-//! page: 458,366,300,000 for the area of slot 3, 1,250,000,000 for the lever
-//! of slot 4, a GM of 100, a steady heel of 160, slots 1, 2 and 5 unused.
+//! pages: 4,583,663,000,000 for the area of slot 3, 12,500,000,000 for the lever
+//! of slot 4, a GM of 1,000 tenths, a steady heel of 160, slots 1, 2 and 5 unused.
 
-use crate::corpus::tests::{judged, named, refused, seeds};
+use crate::corpus::tests::{judged, named, refused, seeds, with_stored};
 use crate::corpus::Corpus;
 use crate::criteria::{Judgement, FAIL, NOT_JUDGED, PASS, UNUSED};
 use crate::instrument::{judge_text, judgements};
 use crate::refusal::Refusal;
 
-const TWINS: usize = 151;
+const TWINS: usize = 155;
 
 /// What each set says of a case.
 fn both(corpus: &Corpus, name: &str) -> [Judgement; 2] {
@@ -18,11 +18,11 @@ fn both(corpus: &Corpus, name: &str) -> [Judgement; 2] {
 #[test]
 fn limits_met_exactly_pass_and_one_less_fails() {
     let limits = [
-        ("criterion 3", 3, 5, 458_366_300_000),
-        ("criterion 4 late", 4, 6, 1_250_000_000),
-        ("criterion 4 early", 4, 6, 1_250_000_000),
+        ("criterion 3", 3, 5, 4_583_663_000_000),
+        ("criterion 4 late", 4, 6, 12_500_000_000),
+        ("criterion 4 early", 4, 6, 12_500_000_000),
     ];
-    for corpus in seeds() {
+    for corpus in with_stored() {
         for (name, slot, figure, limit) in limits {
             for (beside, verdict) in [(-1, FAIL), (0, PASS), (1, PASS)] {
                 let [code, timber] = both(&corpus, &format!("timber {name} limit {beside:+}"));
@@ -39,12 +39,13 @@ fn limits_met_exactly_pass_and_one_less_fails() {
         }
         for (gm, of_code, of_timber) in [
             (0, FAIL, FAIL),
-            (99, FAIL, FAIL),
-            (100, FAIL, PASS),
-            (149, FAIL, PASS),
-            (150, PASS, PASS),
+            (999, FAIL, FAIL),
+            (1_000, FAIL, PASS),
+            (1_001, FAIL, PASS),
+            (1_499, FAIL, PASS),
+            (1_500, PASS, PASS),
         ] {
-            let said = both(&corpus, &format!("timber GM {gm}"));
+            let said = both(&corpus, &format!("timber GM {gm} tenths"));
             assert_eq!(said.each_ref().map(|judged| judged.figures[2]), [gm; 2]);
             assert_eq!(said.map(|judged| judged.verdicts[5]), [of_code, of_timber]);
         }
@@ -166,7 +167,7 @@ fn one_set_passes_and_the_other_fails() {
         let lower = "fails as timber in slot 4 alone";
         assert_eq!(fails(lower), [vec![], vec![4]]);
         let figure = both(&corpus, lower)[1].figures[6];
-        assert!((1_000_000_000..1_250_000_000).contains(&figure));
+        assert!((10_000_000_000..12_500_000_000).contains(&figure));
         let gusty = "fails by both in slot 8 alone";
         assert_eq!(fails(gusty), [vec![8], vec![8]]);
         let flooded = "fails by the Code by flooding before 30";
@@ -186,16 +187,16 @@ fn one_set_passes_and_the_other_fails() {
 
 #[test]
 fn criterion_8_is_as_before() {
-    for corpus in seeds() {
+    for corpus in with_stored() {
         for (name, verdict) in [
             ("timber net -1", FAIL),
             ("timber net +0", PASS),
             ("timber net +1", PASS),
             ("timber u none", FAIL),
-            ("timber GM 0", NOT_JUDGED),
+            ("timber GM 0 tenths", NOT_JUDGED),
             ("timber B 14000 at d 4000", NOT_JUDGED),
-            ("timber KG 2799 at d 4000", NOT_JUDGED),
-            ("timber KG 6001 at d 4000", NOT_JUDGED),
+            ("timber KG 27999 tenths at d 4000", NOT_JUDGED),
+            ("timber KG 60001 tenths at d 4000", NOT_JUDGED),
             ("timber period 2000", NOT_JUDGED),
         ] {
             let [code, timber] = both(&corpus, name);
@@ -203,8 +204,8 @@ fn criterion_8_is_as_before() {
         }
         for name in [
             "timber B 13999 at d 4000",
-            "timber KG 2800 at d 4000",
-            "timber KG 6000 at d 4000",
+            "timber KG 28000 tenths at d 4000",
+            "timber KG 60000 tenths at d 4000",
             "timber period 1999",
         ] {
             assert_ne!(both(&corpus, name)[1].verdicts[7], NOT_JUDGED, "{name}");
@@ -222,8 +223,8 @@ fn tanks_and_cargo_tanks_behind_a_c6() {
             let [tank, cargo] = tanks(&format!("fill {fill} depth {depth}"));
             assert!(tank.figures[1] < cargo.figures[1]);
         }
-        for (gm, verdict) in [(99, FAIL), (100, PASS)] {
-            let [tank, cargo] = tanks(&format!("planner's tank, GM {gm} with its surface"));
+        for (gm, verdict) in [(999, FAIL), (1_000, PASS)] {
+            let [tank, cargo] = tanks(&format!("planner's tank, GM {gm} tenths with its surface"));
             assert_eq!((cargo.figures[2], cargo.verdicts[5]), (gm, verdict));
             assert_eq!(tank.verdicts[5], PASS);
         }
