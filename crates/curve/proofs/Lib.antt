@@ -6,6 +6,7 @@ pub mod Limits
 pub mod Machine
 pub mod Rows
 pub mod Sizes
+pub mod Reach
 pub mod Steps
 pub mod Straight
 pub mod Weighing

@@ -29,5 +29,8 @@ module _ (r : Row) (fine : ok row r ≡ true) where
   pub km-small : r .km < 65_536
   km-small = omega (arith, ok-at row r fine 2 .1)
 
+  pub kn-most : (i : ℕ) → getD (r .kn) i 0 ≤ 30_000
+  kn-most i = omega (arith, ok-at row r fine (suc (suc (suc i))) .1, field-lower 30_000 (drop 3 (row .fields)) tt i)
+
   pub kn-small : (i : ℕ) → getD (r .kn) i 0 < 65_536
-  kn-small i = omega (arith, ok-at row r fine (suc (suc (suc i))) .1, field-lower 30_000 (drop 3 (row .fields)) tt i)
+  kn-small i = omega (arith, kn-most i)

@@ -54,7 +54,7 @@ abbrev below : ℕ → List ℕ → Bool
 below n [] = true
 below n (x ∷ xs) = ltb x n && below n xs
 
-entry-below : (n : ℕ) (xs : List ℕ) → 0 < n → T (below n xs) → (i : ℕ) → getD xs i 0 < n
+pub entry-below : (n : ℕ) (xs : List ℕ) → 0 < n → T (below n xs) → (i : ℕ) → getD xs i 0 < n
 entry-below n [] h t i = h
 entry-below n (x ∷ xs) h t zero = ltb→lt x n (and-yes (ltb x n) (below n xs) t .0)
 entry-below n (x ∷ xs) h t (suc i) = entry-below n xs h (and-yes (ltb x n) (below n xs) t .1) i

@@ -87,7 +87,7 @@ module _ (n : ℕ) (some : 0 < n) (c : Loaded) where
 
   passes4-finer : passes4 c′ ≡ passes4 c
   unfolding passes4
-  passes4-finer = ap (λ (b : Bool). leb (set c .from) (E c) && b) (limit-finer _ (greatestLever c) (greatestLever c′) lever-greatest)
+  passes4-finer = rw (limit-finer (set c .lever) (greatestLever c) (greatestLever c′) lever-greatest)
 
   angle-finer : angleOfGreatest c′ ≡ angleOfGreatest c
   unfolding angleOfGreatest
