@@ -6,7 +6,7 @@ use Prim.Native.Nat.{ℕ, _+_, _-_, _*_, _/_, _%_, _≤_}
 use native.Mathlib.Omega.{arith}
 use native.Mathlib.Nat.{mul-le-mul, mul-le-mul-right}
 use lib.ListN.{getD}
-use lib.IntN.{ℤ, pos, negℤ, subℕ}
+use lib.IntN.{pos, negℤ, subℕ}
 use Rattle.rules.specs.Blocks.{smooth}
 use Rattle.rules.specs.Loading.{tenths}
 use Rattle.rules.specs.Curve.{Loaded, fifty, sines, lever, leverZ, y}
