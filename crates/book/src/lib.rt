@@ -1,5 +1,5 @@
 // The ship's book in plain data: what is read of a text and handed on by value, with names from document 01.
-// Lengths are millimetres, masses kilograms, angles tenths of a degree.
+// Lengths are millimetres, but a KG is tenths of one; masses kilograms, angles tenths of a degree.
 
 // A1.
 pub struct Ship {

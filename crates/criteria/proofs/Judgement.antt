@@ -38,10 +38,6 @@ lever-some code = omega arith
 lever-some timber = omega arith
 
 module _ (c : Loaded) where
-  pub figures-are : judgement c .figures ≡ pos (c .w) ∷ pos (c .kg) ∷ gm c ∷ area1 c ∷ area2 c ∷ area3 c ∷ greatestLever c ∷ pos (angleOfGreatest c) ∷ phi0Figure c ∷ where8 c (pos (phi1 c)) ∷ where8 c (net c) ∷ []
-  unfolding judgement
-  figures-are = refl
-
   -- 'If E < 300: fail, figure 0': the figure alone decides, as every set asks for some lever.
   pub lever-decides : 0 < c .unit → leZ (pos (c .unit * set c .lever)) (greatestLever c) ≡ passes4 c
   lever-decides some = elim (decLe (set c .from) (E c)) [

@@ -4,12 +4,13 @@ use mathlib.Core.List.{List, map}
 use Prim.Native.Nat.{ℕ, suc, _+_, _-_, _*_, _/_, _%_, _^_, _≤_, _<_}
 use lib.ListN.{length, getD}
 use lib.IntN.{ℤ, pos, negsuc, negℤ, subℕ, natAbs, _+ℤ_, _*ℤ_}
+use Rattle.rules.specs.Loading.{tenths, greatestKG}
 use Rattle.rules.specs.Curve.{stations, sines, area}
 
 -- Sizes that the machine's arithmetic rests on: KN within two bytes, KG what 8 allows.
 pub record Sized (kn : List ℕ) (kg : ℕ) : Type 0 where
   pub forms : (i : ℕ) → getD kn i 0 < 2 ^ 16
-  pub centre : kg ≤ 600_000
+  pub centre : kg ≤ tenths * greatestKG
 
 -- No entry is further than n from zero.
 abbrev pub Within : ℕ → List ℤ → Type 0
@@ -22,9 +23,9 @@ mostG = 2 * 10 ^ 11
 abbrev pub mostY : ℕ
 mostY = 10 ^ 13
 
--- 'g at a station = 100,000 x KN - KG x sine.'
+-- 'g at a station = 100,000 x KN - KG x sine', KN in tenths as KG is.
 unfoldable pub g : List ℕ → ℕ → ℕ → ℤ
-g kn kg i = subℕ (1_000_000 * getD kn i 0) (kg * getD sines i 0)
+g kn kg i = subℕ (tenths * 100000 * getD kn i 0) (kg * getD sines i 0)
 
 abbrev pub leversOf : List ℕ → ℕ → List ℤ
 leversOf kn kg = map (g kn kg) stations

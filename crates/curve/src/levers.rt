@@ -59,7 +59,7 @@ fn fifty(a: i64, b: i64, m: u64) -> i64
 }
 
 // y at each tenth: at the last one the last station's, before it between two stations.
-fn tenths(g: [i64; 13]) -> [i64; 601]
+fn each_tenth(g: [i64; 13]) -> [i64; 601]
     requires { ⌜ Within mostG g ⌝ }
     ensures { λ r. ⌜ Holds (straight g) r ⌝ }
 {
@@ -79,7 +79,7 @@ pub fn curve(kn: [u64; 13], kg: u64) -> [i64; 601]
     ensures { λ r. ⌜ Holds (leverOf tenths kn kg) r ⌝ }
 {
     let g = levers(kn, kg);
-    tenths(g)
+    each_tenth(g)
 }
 
 // The area from 0 to each tenth.

@@ -51,7 +51,7 @@ fn in_table(table: Table, w: u64) -> bool
     lowest.mass <= w && w <= highest.mass
 }
 
-// 'KG = (sum of mass x centre + free surface moments) / W, rounded up.'
+// 'KG = (sum of mass x centre + free surface moments) / W, rounded up', in tenths of a millimetre.
 fn corrected_kg(sums: Sums) -> u64
     requires { ⌜ (0 < sums .mass) × InMachine sums ⌝ }
     ensures { λ r. ⌜ r ≡ kgOf sums ⌝ }

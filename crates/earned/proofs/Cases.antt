@@ -1,7 +1,7 @@
 -- Figures of criterion 8 at parts of a tenth, and of the roll before it is rounded, worked out beside these definitions with exact fractions.
 use mathlib.Core.Path.{_≡_, refl}
 use mathlib.Core.List.{List, [], _∷_, map}
-use Prim.Native.Nat.{ℕ, _*_}
+use Prim.Native.Nat.{ℕ, _*_, _≤_, _<_}
 use native.Mathlib.Omega.{arith}
 use lib.Dec.{lit≤}
 use lib.IntN.{ℤ, pos, negℤ}
@@ -11,7 +11,7 @@ use Rattle.rules.specs.Loading.{tenths}
 use Rattle.rules.specs.Curve.{Loaded, loaded, loadedIn}
 use Rattle.rules.specs.Report.{judgement}
 use Rattle.earned.specs.Gust.{leverBy, yBy, phi0By, startBy, uBy, eBy, netBy}
-use Rattle.earned.specs.Rolling.{exactX1, exactX2, exactK, exactS, exactR, exactC, NoShorter}
+use Rattle.earned.specs.Rolling.{exactX1, exactX2, exactK, exactS, exactR, exactC, NoShorter, exactP, WithinRoll}
 use Rattle.earned.specs.Example.{reading}
 
 abbrev figures : Loaded → ℕ → ℕ → List ℤ
@@ -59,3 +59,11 @@ rolling-worked = refl
 pub rolling-period : (NoShorter 10 11_529 rolling) × (¬ NoShorter 10 11_528 rolling)
 unfolding exactC
 rolling-period = (lit≤ tt, λ h. omega arith)
+
+-- Over a period of 1,152.9 the roll is 187.94 tenths, and no more: in hundredths 18,795 is the least that covers it.
+pub rolling-roll : WithinRoll 1_000 10 11_529 rolling 100 18_795 × (¬ WithinRoll 1_000 10 11_529 rolling 100 18_796)
+unfolding exactP exactX1 exactX2 exactK exactR exactS table onward
+rolling-roll = (lit≤ tt, λ h. not-both h (lit≤ tt))
+  where
+    not-both : {a b : ℕ} → a < b → b ≤ a → ⊥
+    not-both h k = omega arith

@@ -14,7 +14,6 @@ use Rattle.rules.specs.Blocks.{Weather, weather, okWeather, ok, within}
 use Rattle.rules.specs.Loading.{millimetres}
 use Rattle.rules.specs.Curve.{Loaded, fifty, sines, lever, leverZ}
 use Rattle.rules.specs.Criteria.{set, angleOfGreatest, passes5}
-use Rattle.rules.specs.Ranges.{Fair}
 use Rattle.rules.proofs.rounding.Signed.{up, dn, sub≡}
 use Rattle.rules.proofs.layout.Fields.{both-true, Limited, limited}
 use Rattle.rules.proofs.rounding.Searches.{Peak, peak-is}
@@ -92,11 +91,11 @@ flooding-to w h = let L = weather (w .set) in limited (L .fields) (L .listed (w 
 pub angle-used : (c : Loaded) → peak (lever millimetres (used c .kn) (c .kg)) 0 (c .weather .sky .flooding) ≡ peak (lever (c .unit) (c .kn) (c .kg)) 0 (c .weather .sky .flooding)
 angle-used c = ap (λ (f : ℕ → ℤ). peak f 0 (c .weather .sky .flooding)) (fun-ext (lever-used c))
 
-pub fifth : (D : ℕ) → 0 < D → (h : Hull) (c : Loaded) → Fair c → Behind D h c → ((i : ℕ) → getD (h .kn) i 0 ≡ D * getD (c .kn) i 0) → passes5 c ≡ true → passesFifth (set c) (c .weather .sky) h ≡ true
+pub fifth : (D : ℕ) → 0 < D → (h : Hull) (c : Loaded) → okWeather (c .weather) ≡ true → Behind D h c → ((i : ℕ) → getD (h .kn) i 0 ≡ D * getD (c .kn) i 0) → passes5 c ≡ true → passesFifth (set c) (c .weather .sky) h ≡ true
 unfolding passes5 angleOfGreatest passesFifth leverZ
-fifth D some h c fair behind same p =
+fifth D some h c ok behind same p =
     let e = c .weather .sky .flooding in
-    le-leb (set c .angle) (peak (lever millimetres (h .kn) (h .kg)) 0 e) (omega (arith, leb-true (set c .angle) (peak (lever (c .unit) (c .kn) (c .kg)) 0 e) p, angle-used c, angle-order D (c .unit) (used c) h behind alike some e (flooding-to (c .weather) (fair .sky))))
+    le-leb (set c .angle) (peak (lever millimetres (h .kn) (h .kg)) 0 e) (omega (arith, leb-true (set c .angle) (peak (lever (c .unit) (c .kn) (c .kg)) 0 e) p, angle-used c, angle-order D (c .unit) (used c) h behind alike some e (flooding-to (c .weather) ok)))
   where
     alike : (i : ℕ) → D * getD (used c .kn) i 0 ≡ c .unit * getD (h .kn) i 0
     alike i = rw (getD-finer (c .unit) (c .kn) i, same i) (turn (getD (c .kn) i 0))

@@ -2,9 +2,9 @@
 use mathlib.Core.Path.{_≡_, refl, ap₂, sym, _∙_}
 use mathlib.Core.Bool.{Bool, true}
 use mathlib.Core.List.{List}
-use Prim.Native.Nat.{ℕ, zero, suc, _*_, _≤_, _<_}
+use Prim.Native.Nat.{ℕ, zero, suc, _+_, _*_, _≤_, _<_}
 use native.Mathlib.Omega.{arith}
-use native.Mathlib.Nat.{mul-le-mul-left}
+use native.Mathlib.Nat.{mul-le-mul-left, mul-lt-mul-of-pos-left, lt-of-mul-lt-mul-left}
 use lib.ListN.{getD}
 use borrow.Author.Tests.{leb-true, le-leb}
 use Rattle.rules.specs.Rounding.{peak}
@@ -31,6 +31,10 @@ use Rattle.earned.proofs.Fifth.{angle-order, angle-used, flooding-to}
 pub kg-no-more : (n m : ℕ) (es : List Entry) → 0 < displacement es → correctedKGIn (n * m) es ≤ n * correctedKGIn m es
 kg-no-more n m es some = ceiling-least (kg-up (n * m) es some) (n * correctedKGIn m es) (omega (arith, mul-le-mul-left n (kg-up m es some .over)))
 
+-- And less by fewer than n.
+pub kg-near : (n m : ℕ) (es : List Entry) → 0 < n → 0 < displacement es → n * correctedKGIn m es < correctedKGIn (n * m) es + n
+kg-near n m es pos some = lt-of-mul-lt-mul-left (displacement es) (omega (arith, mul-lt-mul-of-pos-left (kg-up m es some .near) pos, kg-up (n * m) es some .over))
+
 -- ---- a ship at one displacement, with a KG in the unit m and one in n times as fine a unit that is no greater
 module _ (n m : ℕ) (s : Ship) (rows : List Row) (sky : Weather) (w kg kg′ : ℕ) (no-more : kg′ ≤ n * kg) where
   abbrev coarse : Loaded
@@ -51,11 +55,11 @@ module _ (n m : ℕ) (s : Ship) (rows : List Row) (sky : Weather) (w kg kg′ : 
   unfolding loadedAt lw1
   better = record { kn = λ i. omega (arith, kn-same i); km = omega arith; kg = omega arith; lw1 = omega arith }
 
-  pub keeps-finer : (k : Criterion) → passes k coarse ≡ true → passes k fine ≡ true
+  keeps-finer : (k : Criterion) → passes k coarse ≡ true → passes k fine ≡ true
   unfolding loadedAt
   keeps-finer k p = sym (over-unit k fine) ∙ keeps n 1 m (n * m) (omega arith) (omega arith) (set coarse) (sky .sky) (used coarse) (used fine) better k (over-unit k coarse ∙ p)
 
-  pub keeps-fifth : 0 < n → okWeather sky ≡ true → passes5 coarse ≡ true → passes5 fine ≡ true
+  keeps-fifth : 0 < n → okWeather sky ≡ true → passes5 coarse ≡ true → passes5 fine ≡ true
   unfolding loadedAt passes5 angleOfGreatest leverZ
   keeps-fifth some ok p =
       let e = sky .sky .flooding in
@@ -72,12 +76,12 @@ slot-stays : (used used′ p p′ : Bool) → used ≡ used′ → (p ≡ true �
 slot-stays used used′ p p′ same f e = let h = slot-pass used p e in rw (← same, h .0, f (h .1))
 
 module _ (n m : ℕ) (R : Reading) (limits : Limits R) (judged : weighed R ≡ got tt) where
-  pub six-never-harsher : (k : Criterion) → passes k (loadedIn m R) ≡ true → passes k (loadedIn (n * m) R) ≡ true
+  six-never-harsher : (k : Criterion) → passes k (loadedIn m R) ≡ true → passes k (loadedIn (n * m) R) ≡ true
   unfolding loadedIn
   six-never-harsher = keeps-finer n m (R .ship) (R .rows) (R .condition .weather) (displacement (entriesOf R)) (correctedKGIn m (entriesOf R)) (correctedKGIn (n * m) (entriesOf R)) (kg-no-more n m (entriesOf R) (exacts.some R limits judged))
 
 module _ (n m : ℕ) (some : 0 < n) (R : Reading) (limits : Limits R) (judged : weighed R ≡ got tt) where
-  pub fifth-never-harsher : passes5 (loadedIn m R) ≡ true → passes5 (loadedIn (n * m) R) ≡ true
+  fifth-never-harsher : passes5 (loadedIn m R) ≡ true → passes5 (loadedIn (n * m) R) ≡ true
   unfolding loadedIn
   fifth-never-harsher = keeps-fifth n m (R .ship) (R .rows) (R .condition .weather) (displacement (entriesOf R)) (correctedKGIn m (entriesOf R)) (correctedKGIn (n * m) (entriesOf R)) (kg-no-more n m (entriesOf R) (exacts.some R limits judged)) some (limits .loaded .sky)
 

@@ -1,4 +1,4 @@
--- The limits of criteria 1 to 3 are at least 0.055, 0.03 and 0.09 m·rad, timber's of criterion 3 at least 0.08, and are the least such multiples of 100,000 y units (a millionth of a metre-degree).
+-- The limits of criteria 1 to 3 are at least 0.055, 0.03 and 0.09 m·rad, timber's of criterion 3 at least 0.08, and are the least such multiples of 100,000 y units (a millionth of a metre-degree): all of a KG in millimetres, as they stand in the sets.
 use Prim.Native.Nat.{ℕ, _-_, _<_}
 use native.Mathlib.Omega.{arith}
 use Rattle.rules.specs.Blocks.{code, timber}

@@ -9,7 +9,7 @@ use lib.ListN.{getD, replicate}
 use lib.IntN.{ℤ, pos, negℤ, _+ℤ_, _*ℤ_}
 use lib.Signed.{leZ}
 use Rattle.rules.specs.Rounding.{sumZ}
-use Rattle.rules.specs.Blocks.{code, timber, Sky}
+use Rattle.rules.specs.Blocks.{code, timber, Sky, okWeather}
 use Rattle.rules.specs.Layout.{Reading, Limits}
 use Rattle.rules.specs.Outcome.{got}
 use Rattle.rules.specs.Walk.{read}
@@ -19,7 +19,6 @@ use Rattle.rules.specs.Criteria.{Criteria, limitsOf, set, uses, lw1, phi0, pass
 use Rattle.rules.specs.Roll.{period, phi1, start, e, net, notJudged, noGust}
 use Rattle.rules.specs.Columns.{slotOf}
 use Rattle.rules.specs.Report.{pass, fail, slot, verdict, verdict8, judgement}
-use Rattle.rules.specs.Ranges.{Fair}
 use Rattle.rules.specs.Answer.{answered, answeredIn}
 use Rattle.rules.proofs.rounding.Signed.{Le, le-true, up-mull, dn-mull}
 use Rattle.rules.proofs.loading.Fair.{fair}
@@ -103,7 +102,7 @@ pub reading-is-earned : (R : Reading) → Limits R → weighed R ≡ got tt → 
 reading-is-earned R l w = keeping.earned (over R) (exact R) (loaded R) (exacts.in-unit R) (exacts.exact-behind R l w)
 
 -- Criterion 5 is not among them, for a KN rounded down can move the greatest lever out. But with KN as used, no pass of it is owed to the rounding of KG.
-pub fifth-is-earned : (D : ℕ) → 0 < D → (h : Hull) (c : Loaded) → Fair c → Behind D h c → ((i : ℕ) → getD (h .kn) i 0 ≡ D * getD (c .kn) i 0) → passes5 c ≡ true → passesFifth (set c) (c .weather .sky) h ≡ true
+pub fifth-is-earned : (D : ℕ) → 0 < D → (h : Hull) (c : Loaded) → okWeather (c .weather) ≡ true → Behind D h c → ((i : ℕ) → getD (h .kn) i 0 ≡ D * getD (c .kn) i 0) → passes5 c ≡ true → passesFifth (set c) (c .weather .sky) h ≡ true
 fifth-is-earned = angle.fifth
 
 -- The heel that criterion 7 judges is no less than the exact one, and by less than a tenth: at any parts of a tenth, the first part at which the curve has lw1 or more.
@@ -185,6 +184,10 @@ counterexample-excluded = counter.excluded
 pub kg-no-more : (n m : ℕ) (es : List Entry) → 0 < displacement es → correctedKGIn (n * m) es ≤ n * correctedKGIn m es
 kg-no-more = harsher.kg-no-more
 
+-- And it is less by fewer than n: of tenths against millimetres, by 0.9 mm at the most.
+pub kg-near : (n m : ℕ) (es : List Entry) → 0 < n → 0 < displacement es → n * correctedKGIn m es < correctedKGIn (n * m) es + n
+kg-near = harsher.kg-near
+
 -- So for every reading that is judged no slot from 1 to 7, 5 included, loses its pass in a unit n times as fine ..
 pub finer-never-harsher : (n m : ℕ) → 0 < n → (R : Reading) → Limits R → weighed R ≡ got tt → KeepsSeven (loadedIn m R) (loadedIn (n * m) R)
 finer-never-harsher = harsher.never-harsher
@@ -207,7 +210,7 @@ pub ferry-passes : (answeredIn millimetres ferry ≡ got (record {
 }))
 ferry-passes = (texts.ferry-before, texts.ferry-now)
 
--- Criterion 8 is not among them, for a stiffer ship may roll further: with a KG of 4,674 mm this one passes all eight, with 4,673.1 mm her phi1 is 20.8 degrees for 20.7, her net is below zero, and 8 is lost.
+-- Criterion 8 is not among them, for a stiffer ship may heel less and roll further: with a KG of 4,674 mm this one passes all eight; with 4,673.1 mm her phi0 is 9.7 degrees for 9.8 and her phi1 20.8 for 20.7, so that she starts two tenths further to windward, her net is below zero, and 8 is lost.
 pub eighth-can-be-lost : (answeredIn millimetres stiffer ≡ got (record {
   verdicts = replicate 8 pass;
   figures = pos 4_740_521 ∷ pos 4_674 ∷ pos 690 ∷ pos 497_661_010_000 ∷ pos 332_193_425_000 ∷ pos 829_854_435_000 ∷ pos 1_819_839_300 ∷ pos 450 ∷ pos 98 ∷ pos 207 ∷ pos 3_589_509_992 ∷ [];

@@ -24,7 +24,7 @@ pub ferry-now : answered ferry ≡ got (record {
 unfolding answeredIn
 ferry-now = refl
 
--- ---- criterion 8: with KG 4,674 mm all eight pass; with 4,673.1 mm the period is shorter, the roll a tenth of a degree greater, and it fails
+-- ---- criterion 8: with KG 4,674 mm all eight pass; with 4,673.1 mm the steady heel comes a tenth of a degree earlier, the period is shorter, the roll a tenth greater, and it fails
 pub stiffer-before : answeredIn millimetres stiffer ≡ got (record {
   verdicts = replicate 8 pass;
   figures = pos 4_740_521 ∷ pos 4_674 ∷ pos 690 ∷ pos 497_661_010_000 ∷ pos 332_193_425_000 ∷ pos 829_854_435_000 ∷ pos 1_819_839_300 ∷ pos 450 ∷ pos 98 ∷ pos 207 ∷ pos 3_589_509_992 ∷ [];

@@ -6,11 +6,11 @@ use Prim.Native.Nat.{ℕ, _*_, _≤_}
 use native.Mathlib.Omega.{arith}
 use lib.ListN.{length}
 use Rattle.rules.specs.Layout.{mostCharacters}
-use Rattle.rules.specs.Outcome.{refused}
-use Rattle.rules.specs.Report.{report, reportLength}
+use Rattle.rules.specs.Outcome.{refused, got}
+use Rattle.rules.specs.Report.{Judgement, report, reportLength}
 use Rattle.rules.specs.Booklet.{readWhole}
 use Rattle.rules.specs.Answer.{answered, answeredIn, numberOf, reportOf, taken, firstNumber, numberFor, sent, over, number, written, room}
-use Rattle.rules.proofs.answer.Steps.{report-refused}
+use Rattle.rules.proofs.answer.Steps.{report-refused, report-judged}
 use Rattle.rules.proofs.booklet.Sent.{number-taken, written-taken}
 use Rattle.rules.proofs.booklet.Room.{with-room}
 use Rattle.rules.proofs.bench.Cases.{lines, refusal}
@@ -18,6 +18,7 @@ use Rattle.rules.proofs.bench.Bench.{ship, row1, row2, with, P1-condition, P1, 
 use Rattle.rules.proofs.bench.CargoTank.{tanker}
 use Rattle.rules.proofs.bench.TimberDeck.{tender, coaster}
 use Rattle.rules.proofs.bench.MistypedRow.{digitMissing, above400, below400, above800, below800}
+use Rattle.earned.specs.Tenths.{ferry, stiffer}
 use Rattle.instrument.specs.Reported.{reportIn}
 use Rattle.instrument.proofs.Replies.{whole-sent}
 use Rattle.instrument.proofs.OfOne.{isOne, one-read, room-one, sent-one}
@@ -55,6 +56,15 @@ timbers-one = (refl, refl, refl, refl)
 pub mistyped-one : (isOne (readWhole mostCharacters above400) ≡ true) × (isOne (readWhole mostCharacters below400) ≡ true) × (isOne (readWhole mostCharacters above800) ≡ true) × (isOne (readWhole mostCharacters below800) ≡ true)
 unfolding taken readWhole
 mistyped-one = (refl, refl, refl, refl)
+
+pub ships-one : (isOne (readWhole mostCharacters ferry) ≡ true) × (isOne (readWhole mostCharacters stiffer) ≡ true)
+unfolding taken readWhole
+ships-one = (refl, refl)
+
+-- What is judged is reported.
+pub judged-report : (t : List ℕ) {j : Judgement} → answered t ≡ got j → (numberOf (answered t) ≡ 0) × (reportOf (answered t) ≡ report 0 0 0 j)
+unfolding report
+judged-report t {j} e = (ap numberOf e, ap reportOf e ∙ report-judged j)
 
 -- The first is judged, and so are these.
 pub judged-0 : (numberOf (answered P1) ≡ 0) × (numberOf (answered (tanker "C3")) ≡ 0) × (numberOf (answered (tanker "C5")) ≡ 0)

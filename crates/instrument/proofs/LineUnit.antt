@@ -5,7 +5,7 @@ use Prim.Native.Nat.{ℕ, zero, suc, _*_, _≤_, _<_}
 use native.Mathlib.Omega.{arith}
 use Rattle.rules.specs.Text.{hex}
 use Rattle.rules.specs.Blocks.{Ship, Row}
-use Rattle.rules.specs.Layout.{Condition, Reading, Limits}
+use Rattle.rules.specs.Layout.{Reading, Limits}
 use Rattle.rules.specs.Loading.{millimetres, tenths, correctedKG, entriesOf}
 use Rattle.rules.specs.Curve.{loadedIn}
 use Rattle.rules.specs.Report.{Verdict, pass, verdictNumber, judgement, report}

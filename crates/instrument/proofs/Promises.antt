@@ -7,8 +7,8 @@ use mathlib.Core.Logic.{_↔_, _≢_, _⊎_}
 use mathlib.Core.List.{List, [], _∷_, _++_}
 use Prim.Native.Nat.{ℕ, _+_, _*_, max, _≤_, _<_}
 use native.Mathlib.Omega.{arith}
-use lib.IntN.{pos}
-use lib.ListN.{length, drop, getD, set}
+use lib.IntN.{pos, negℤ}
+use lib.ListN.{length, drop, getD, set, replicate}
 use denote.Ref.{RefT, now}
 use Rattle.rules.specs.Rounding.{ceil}
 use Rattle.rules.specs.Numbers.{Bytes, digits, twos}
@@ -22,7 +22,7 @@ use Rattle.rules.specs.Cargo.{MadeCargo, RetaggedLines}
 use Rattle.rules.specs.Timber.{TimberLines, conditionBy, UnusedSlot, EasedSlot}
 use Rattle.rules.specs.Curve.{loaded, loadedIn, y}
 use Rattle.rules.specs.Criteria.{angleOfGreatest}
-use Rattle.rules.specs.Report.{pass, verdictNumber, judgement, noJudgement, concat, report, reportLength}
+use Rattle.rules.specs.Report.{fail, pass, verdictNumber, judgement, noJudgement, concat, report, reportLength}
 use Rattle.rules.specs.Columns.{figureIn, slotOf, verdictIn}
 use Rattle.rules.specs.Met.{Overruns}
 use Rattle.rules.specs.Places.{Placed, SameBefore, lookedAt}
@@ -46,6 +46,8 @@ use Rattle.rules.proofs.bench.CargoTank.{tanker, cargo-output, planner-holds}
 use Rattle.rules.proofs.bench.TimberDeck.{tender, tender-output, tender-timber-output, coaster, coaster-output, coaster-timber-output, timbers-hold}
 use Rattle.rules.proofs.bench.MistypedRow.{digitMissing, above400, below400, above800, below800, mistyped-hold}
 use Rattle.rules.proofs.bench.Regrouped.{regrouped, asOne, asGroup, reads-as, same-sums, two-texts}
+use Rattle.earned.specs.Tenths.{ferry, stiffer}
+use Rattle.earned.proofs.Promises as ships
 use Rattle.instrument.specs.Reported.{reportIn, numberIn, HasNumber, RefusedLine, SameButLine, RefusedAt, RefusedWhole, EachAnswered}
 use Rattle.instrument.specs.Faults.{NoLineAt, WholeOverrunAt, MisplacedAt, OwedAt, SlipAt, LineOverrunAt}
 use Rattle.instrument.specs.Outside.{Outside, TooHigh, Neither}
@@ -222,7 +224,7 @@ module _ (text before : List ℕ) (n : ℕ) (after : List ℕ) (run : Judges tex
           pub whole-kg-keeps-verdicts : HasNumber 0 (reportIn k after) → (j : ℕ) → correctedKG (entriesOf (readingAt (a .0) (c .0))) ≡ 10 * j → reportIn k after ≡ report 0 0 0 (manifold 10 (judgement (loadedIn millimetres (readingAt (a .0) (c .0)))))
           whole-kg-keeps-verdicts = units.whole-sent line c fits
 
-          -- Whatever its KG: each slot from 1 to 7, 5 included, that reads pass in millimetres reads pass (1) in report k. (8 can be lost: `eighth-can-be-lost` in the promises of `earned`.)
+          -- Whatever its KG: each slot from 1 to 7, 5 included, that reads pass in millimetres reads pass (1) in report k. (8 can be lost: `eighth-can-be-lost`.)
           pub tenths-never-harsher : HasNumber 0 (reportIn k after) → (i : ℕ) → 1 ≤ i → i ≤ 7 → slotOf i (judgement (loadedIn millimetres (readingAt (a .0) (c .0)))) ≡ pass → verdictIn i (reportIn k after) ≡ hex (1 ∷ [])
           tenths-never-harsher = units.harsher-sent line c fits
 
@@ -463,6 +465,20 @@ digit-missing =
       sends above800 (one .2) (sheet.judged-0 .9) (h .1 .1 .0),
       sends below800 (one .3) (sheet.judged-0 .10) (h .1 .1 .1 .0),
     )
+
+-- A ferry that failed criterion 4 in millimetres by the rounding of KG alone passes all eight: her KG is 4,759.5 mm, and 4,760 was too much ..
+pub ferry-passes : Sends ferry 0 (report 0 0 0 (record {
+  verdicts = replicate 8 pass;
+  figures = pos 900_000 ∷ pos 47_595 ∷ pos 5_505 ∷ pos 3_743_209_675_000 ∷ pos 1_982_457_437_500 ∷ pos 5_725_667_112_500 ∷ pos 10_002_299_500 ∷ pos 350 ∷ pos 58 ∷ pos 191 ∷ pos 957_012_726_940 ∷ [];
+}))
+ferry-passes = let j = sheet.judged-report ferry (ships.ferry-passes .1) in sends ferry (sheet.ships-one .0) (j .0) (j .1)
+
+-- .. and a ship that passed all eight in millimetres, with a net of +3,589,509,992, loses criterion 8. (What both read in millimetres: the theorems of these names in the promises of `earned`.)
+pub eighth-can-be-lost : Sends stiffer 0 (report 0 0 0 (record {
+  verdicts = pass ∷ pass ∷ pass ∷ pass ∷ pass ∷ pass ∷ pass ∷ fail ∷ [];
+  figures = pos 4_740_521 ∷ pos 46_731 ∷ pos 6_909 ∷ pos 4_983_514_315_000 ∷ pos 3_327_086_637_500 ∷ pos 8_310_600_952_500 ∷ pos 18_230_212_950 ∷ pos 450 ∷ pos 97 ∷ pos 208 ∷ negℤ (pos 9_353_477_464) ∷ [];
+}))
+eighth-can-be-lost = let j = sheet.judged-report stiffer (ships.eighth-can-be-lost .1) in sends stiffer (sheet.ships-one .1) (j .0) (j .1)
 
 -- ---- how much room
 -- One run of `room` as its contract admits it: lent `text`, it sends back `r`.

@@ -1,4 +1,4 @@
--- r in the machine's signed numbers: 600 (KG - d), its quotient by d, and 730 more, all small.
+-- r in the machine's signed numbers: 600 (KG - 10 d), its quotient by 10 d, and 730 more, all small.
 use mathlib.Core.Path.{_≡_}
 use Prim.Native.Nat.{ℕ, _*_, _≤_, _<_, _^_}
 use native.Mathlib.Omega.{arith}

@@ -57,7 +57,7 @@ gm-short unit km kg l some h = le-false (pos (unit * l)) (subℕ (unit * km) kg)
 
 module _ (n unit : ℕ) (some : 0 < n) where
   -- KG against a whole number of millimetres.
-  pub kg-test : (es : List Entry) → 0 < displacement es → (k : ℕ) → leb (correctedKGIn (n * unit) es) (n * unit * k) ≡ leb (correctedKGIn unit es) (unit * k)
+  kg-test : (es : List Entry) → 0 < displacement es → (k : ℕ) → leb (correctedKGIn (n * unit) es) (n * unit * k) ≡ leb (correctedKGIn unit es) (unit * k)
   unfolding correctedKGIn
   kg-test es h k =
       let M = total moment es + total freeSurface es in
@@ -77,7 +77,7 @@ module _ (n unit : ℕ) (some : 0 < n) where
         go true e = rw (kg-test (entriesOf r) (floats r limits e) greatestKG)
         go false e = refl
 
-    pub sixth-alike : 0 < unit → inTable (r .rows) (displacement (entriesOf r)) ≡ true → passes6 (loadedIn (n * unit) r) ≡ passes6 (loadedIn unit r)
+    sixth-alike : 0 < unit → inTable (r .rows) (displacement (entriesOf r)) ≡ true → passes6 (loadedIn (n * unit) r) ≡ passes6 (loadedIn unit r)
     unfolding passes6 loadedIn loadedAt
     sixth-alike u e = go (loadedIn unit r .km) (set (loadedIn unit r) .gm)
       where

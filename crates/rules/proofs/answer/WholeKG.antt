@@ -42,7 +42,7 @@ module _ (n unit : ℕ) (some : 0 < n) where
     pub judgement-alike : weighedIn unit r ≡ got tt → (j : ℕ) → correctedKGIn (n * unit) (entriesOf r) ≡ n * j → judgement (loadedIn (n * unit) r) ≡ manifold n (judgement (loadedIn unit r))
     judgement-alike h j e = ap judgement (loaded-finer (floats r limits (weighed-inv unit r h .0)) j e) ∙ judgement-finer n some (loadedIn unit r)
 
-    pub judged-alike : (j : ℕ) → correctedKGIn (n * unit) (entriesOf r) ≡ n * j → judgedIn (n * unit) r ≡ (judgedIn unit r >>= λ J. got (manifold n J))
+    judged-alike : (j : ℕ) → correctedKGIn (n * unit) (entriesOf r) ≡ n * j → judgedIn (n * unit) r ≡ (judgedIn unit r >>= λ J. got (manifold n J))
     unfolding _>>=_
     judged-alike j e =
         judged-steps (n * unit) r

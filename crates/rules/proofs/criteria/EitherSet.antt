@@ -65,6 +65,11 @@ pub verdicts-are : (c : Loaded) → judgement c .verdicts
 unfolding judgement
 verdicts-are c = refl
 
+pub figures-are : (c : Loaded) → judgement c .figures
+    ≡ pos (c .w) ∷ pos (c .kg) ∷ gm c ∷ area1 c ∷ area2 c ∷ area3 c ∷ greatestLever c ∷ pos (angleOfGreatest c) ∷ phi0Figure c ∷ where8 c (pos (phi1 c)) ∷ where8 c (net c) ∷ []
+unfolding judgement
+figures-are c = refl
+
 -- 8 reads the same in every set that uses it.
 pub eighth-slot : (c : Loaded) (s : Set) → uses (loadedBy s c) 8 ≡ true → slotOf 8 (judgement (loadedBy s c)) ≡ verdict8 c
 eighth-slot c s used = rw (verdicts-are (loadedBy s c), used) (eighth-in c s)

@@ -12,10 +12,11 @@ use Rattle.rules.specs.Rounding.{ceil, ceilZ, table, greatest, peak}
 use Rattle.rules.specs.Curve.{Loaded, fifty, sines, lever, leverZ, y, E, area}
 use Rattle.rules.specs.Criteria.{set, uses, area1, area2, area3, greatestLever, angleOfGreatest, gm, lw1, lw2, units, reaches, phi0, phi0Figure, passes1, passes2, passes3, passes4, passes5, passes6, passes7}
 use Rattle.rules.specs.Roll.{b, C, q, period, k, x1, x2, s, S, p, rOf, r, phi1, longestPeriod, start, farthest, u, stays, e, net, outsideRange, notJudged, noGust, passes8}
-use Rattle.rules.specs.Report.{Verdict, verdict, slot, unjudged, fail, verdict8, where8, Judgement, judgement}
-use Rattle.rules.specs.Unit.{finer, manifold}
+use Rattle.rules.specs.Report.{Verdict, verdict, slot, unjudged, fail, verdict8, where8, judgement}
+use Rattle.rules.specs.Unit.{finer, goesUp, raised, manifold}
 use Rattle.rules.proofs.rounding.Signed.{eq!, up-mull, dn-mull}
 use Rattle.rules.proofs.rounding.Times.{times, times-sub, times-neg, times-diff, times-zero, area-times, le-times, leb-times, ltb-times, peak-times, reaches-times, stays-times, ceil-times}
+use Rattle.rules.proofs.criteria.EitherSet.{verdicts-are, figures-are}
 use Rattle.rules.proofs.criteria.Ranges.{Judged, judged, deep, deep-pos}
 
 module _ (n : ℕ) (some : 0 < n) (c : Loaded) where
@@ -111,8 +112,8 @@ module _ (n : ℕ) (some : 0 < n) (c : Loaded) where
   lw1-finer = refl
 
   lw2-finer : lw2 c′ ≡ lw2 c
-  unfolding lw2
-  lw2-finer = ap (λ (l : ℕ). ceil (3 * l) 2) lw1-finer
+  unfolding lw1 lw2
+  lw2-finer = refl
 
   units-finer : (l l′ : ℕ) → l′ ≡ l → units (c′ .unit) l′ ≡ times n (units (c .unit) l)
   units-finer l l′ h = ap pos (ap (λ (l : ℕ). n * c .unit * 5_000_000 * l) h ∙ longer 5_000_000 l)
@@ -242,24 +243,11 @@ module _ (n : ℕ) (some : 0 < n) (c : Loaded) where
           inner false = i (judged c h)
 
 -- ---- the judgement
-listed : (c : Loaded) → judgement c ≡ record {
-  verdicts = slot (uses c 1) (verdict (passes1 c)) ∷ slot (uses c 2) (verdict (passes2 c)) ∷ slot (uses c 3) (verdict (passes3 c)) ∷ slot (uses c 4) (verdict (passes4 c)) ∷ slot (uses c 5) (verdict (passes5 c)) ∷ slot (uses c 6) (verdict (passes6 c)) ∷ slot (uses c 7) (verdict (passes7 c)) ∷ slot (uses c 8) (verdict8 c) ∷ [];
-  figures = pos (c .w) ∷ pos (c .kg) ∷ gm c ∷ area1 c ∷ area2 c ∷ area3 c ∷ greatestLever c ∷ pos (angleOfGreatest c) ∷ phi0Figure c ∷ where8 c (pos (phi1 c)) ∷ where8 c (net c) ∷ [];
-}
-unfolding judgement
-listed c = refl
+verdicts-finer : (n : ℕ) → 0 < n → (c : Loaded) → judgement (finer n c) .verdicts ≡ judgement c .verdicts
+verdicts-finer n some c = verdicts-are (finer n c) ∙ (λ i. slot (uses c 1) (verdict (passes1-finer n some c i)) ∷ slot (uses c 2) (verdict (passes2-finer n some c i)) ∷ slot (uses c 3) (verdict (passes3-finer n some c i)) ∷ slot (uses c 4) (verdict (passes4-finer n some c i)) ∷ slot (uses c 5) (verdict (passes5-finer n some c i)) ∷ slot (uses c 6) (verdict (passes6-finer n some c i)) ∷ slot (uses c 7) (verdict (passes7-finer n some c i)) ∷ slot (uses c 8) (verdict8-finer n some c i) ∷ []) ∙ sym (verdicts-are c)
+
+figures-finer : (n : ℕ) → 0 < n → (c : Loaded) → judgement (finer n c) .figures ≡ raised n goesUp (judgement c .figures)
+figures-finer n some c = figures-are (finer n c) ∙ (λ i. pos (c .w) ∷ pos (n * c .kg) ∷ gm-finer n some c i ∷ area1-finer n some c i ∷ area2-finer n some c i ∷ area3-finer n some c i ∷ lever-greatest n some c i ∷ pos (angle-finer n some c i) ∷ phi0Figure-finer n some c i ∷ where8-finer n some c (λ z. z) refl (pos (phi1 c)) (pos (phi1 (finer n c))) (λ j. ap pos (phi1-finer n some c j)) i ∷ where8-finer n some c (times n) (sym (times-zero n)) (net c) (net (finer n c)) (net-finer n some c) i ∷ []) ∙ sym (ap (raised n goesUp) (figures-are c))
 
 pub judgement-finer : (n : ℕ) → 0 < n → (c : Loaded) → judgement (finer n c) ≡ manifold n (judgement c)
-judgement-finer n some c = listed (finer n c) ∙ go ∙ sym (ap (manifold n) (listed c))
-  where
-    go : _≡_ {A = Judgement} (record {
-      verdicts = slot (uses c 1) (verdict (passes1 (finer n c))) ∷ slot (uses c 2) (verdict (passes2 (finer n c))) ∷ slot (uses c 3) (verdict (passes3 (finer n c))) ∷ slot (uses c 4) (verdict (passes4 (finer n c))) ∷ slot (uses c 5) (verdict (passes5 (finer n c))) ∷ slot (uses c 6) (verdict (passes6 (finer n c))) ∷ slot (uses c 7) (verdict (passes7 (finer n c))) ∷ slot (uses c 8) (verdict8 (finer n c)) ∷ [];
-      figures = pos (c .w) ∷ pos (n * c .kg) ∷ gm (finer n c) ∷ area1 (finer n c) ∷ area2 (finer n c) ∷ area3 (finer n c) ∷ greatestLever (finer n c) ∷ pos (angleOfGreatest (finer n c)) ∷ phi0Figure (finer n c) ∷ where8 (finer n c) (pos (phi1 (finer n c))) ∷ where8 (finer n c) (net (finer n c)) ∷ [];
-    }) (manifold n (record {
-      verdicts = slot (uses c 1) (verdict (passes1 c)) ∷ slot (uses c 2) (verdict (passes2 c)) ∷ slot (uses c 3) (verdict (passes3 c)) ∷ slot (uses c 4) (verdict (passes4 c)) ∷ slot (uses c 5) (verdict (passes5 c)) ∷ slot (uses c 6) (verdict (passes6 c)) ∷ slot (uses c 7) (verdict (passes7 c)) ∷ slot (uses c 8) (verdict8 c) ∷ [];
-      figures = pos (c .w) ∷ pos (c .kg) ∷ gm c ∷ area1 c ∷ area2 c ∷ area3 c ∷ greatestLever c ∷ pos (angleOfGreatest c) ∷ phi0Figure c ∷ where8 c (pos (phi1 c)) ∷ where8 c (net c) ∷ [];
-    }))
-    go i = record {
-      verdicts = slot (uses c 1) (verdict (passes1-finer n some c i)) ∷ slot (uses c 2) (verdict (passes2-finer n some c i)) ∷ slot (uses c 3) (verdict (passes3-finer n some c i)) ∷ slot (uses c 4) (verdict (passes4-finer n some c i)) ∷ slot (uses c 5) (verdict (passes5-finer n some c i)) ∷ slot (uses c 6) (verdict (passes6-finer n some c i)) ∷ slot (uses c 7) (verdict (passes7-finer n some c i)) ∷ slot (uses c 8) (verdict8-finer n some c i) ∷ [];
-      figures = pos (c .w) ∷ pos (n * c .kg) ∷ gm-finer n some c i ∷ area1-finer n some c i ∷ area2-finer n some c i ∷ area3-finer n some c i ∷ lever-greatest n some c i ∷ pos (angle-finer n some c i) ∷ phi0Figure-finer n some c i ∷ where8-finer n some c (λ z. z) refl (pos (phi1 c)) (pos (phi1 (finer n c))) (λ j. ap pos (phi1-finer n some c j)) i ∷ where8-finer n some c (times n) (sym (times-zero n)) (net c) (net (finer n c)) (net-finer n some c) i ∷ [];
-    }
+judgement-finer n some c = λ i. record { verdicts = verdicts-finer n some c i; figures = figures-finer n some c i }

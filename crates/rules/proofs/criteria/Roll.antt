@@ -11,7 +11,7 @@ use Rattle.rules.specs.Curve.{Loaded}
 use Rattle.rules.specs.Roll.{q, period, longestPeriod, p, r, s, phi1, widestRoll}
 use Rattle.rules.proofs.rounding.Searches.{Greatest, greatest-is, First, first-is}
 
--- ---- 'Period n = greatest with n² GM <= 10 q²'
+-- ---- 'Period n = greatest with n² GM <= 10 q²', the right side by KG's unit too
 abbrev pub Fits : Loaded → ℕ → Type 0
 Fits c n = n * n * (c .unit * c .km - c .kg) ≤ c .unit * 10 * q c * q c
 

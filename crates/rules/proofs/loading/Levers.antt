@@ -8,7 +8,7 @@ use lib.IntN.{ℤ, pos, negsuc, negℤ, subℕ, _+ℤ_, _*ℤ_}
 use Rattle.rules.specs.Curve.{sines, lever, leverZ}
 use Rattle.rules.proofs.rounding.Signed.{eq!, sub≡, add≡, up-mull, dn-mull}
 
--- 'g at a station = 100,000 x KN - KG x sine.'
+-- 'g at a station = 100,000 x KN - KG x sine', KN in KG's unit.
 abbrev pub g : ℕ → List ℕ → ℕ → ℕ → ℤ
 g u kn kg i = subℕ (u * 100_000 * getD kn i 0) (kg * getD sines i 0)
 

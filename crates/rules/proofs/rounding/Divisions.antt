@@ -16,7 +16,7 @@ use Rattle.rules.specs.Roll.{b, C, q, period, X1, X2, K, S, keelIndex, k
 use Rattle.rules.proofs.rounding.Rounding.{Floor, Ceiling, CeilingZ, floor-is, ceil-is, ceilZ-is, ceiling-unique, ceilingZ-unique}
 use Rattle.rules.proofs.rounding.Tables.{Linear, linear-unique, X1-is, X2-is, K-is, S-is}
 
--- 'KG = (sum of mass x centre + free surface moments) / W, rounded up.'
+-- 'KG = (sum of mass x centre + free surface moments) / W, rounded up', in a unit.
 pub kg-up : (m : ℕ) (es : List Entry) → 0 < displacement es → Ceiling (m * (total moment es + total freeSurface es)) (displacement es) (correctedKGIn m es)
 unfolding correctedKGIn
 kg-up m es h = ceil-is (m * (total moment es + total freeSurface es)) (displacement es) h
@@ -51,7 +51,7 @@ pub p-up : (c : Loaded) (m : ℕ) → Ceiling (k c * x1 c) 1000 m → Ceiling (m
 unfolding p
 p-up c m h = subst (λ (n : ℕ). Ceiling (n * x2 c) 1000 (p c)) (ceiling-unique (ceil-is (k c * x1 c) 1000 (omega arith)) h) (ceil-is (ceil (k c * x1 c) 1000 * x2 c) 1000 (omega arith))
 
--- 'r = 730 + 600 (KG - d)/d, the quotient rounded up, also below zero.'
+-- 'r = 730 + 600 (KG - d)/d, the quotient rounded up, also below zero', d in KG's unit.
 pub r-up : (m kg d : ℕ) → 0 < m * d → (z : ℤ) → CeilingZ (pos 600 *ℤ subℕ kg (m * d)) (m * d) z → rOf m kg d ≡ pos 730 +ℤ z
 unfolding rOf
 r-up m kg d h z i = ap (λ (n : ℤ). pos 730 +ℤ n) (ceilingZ-unique (ceilZ-is (pos 600 *ℤ subℕ kg (m * d)) (m * d) h) i)

@@ -18,7 +18,8 @@ use Rattle.roll.proofs.Limits.{sized}
 use Rattle.gust.specs.declared.Wind.{Wind}
 use Rattle.criteria.specs.declared.righting.Righting.{Righting}
 use Rattle.criteria.specs.declared.verdicts.Eighth.{Eighth}
-use Rattle.criteria.proofs.Judgement.{_::_, figures-are, eighth-is}
+use Rattle.rules.proofs.criteria.EitherSet.{figures-are}
+use Rattle.criteria.proofs.Judgement.{_::_, eighth-is}
 use Rattle.criteria.proofs.figures.list.Statement.{statement}
 use Rattle.criteria.proofs.figures.list.Tie as tie
 

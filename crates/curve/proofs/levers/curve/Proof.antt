@@ -8,11 +8,11 @@ use Rattle.curve.proofs.levers.curve.Tie as tie
 levers-requires : tie.Need-levers-requires
 levers-requires c κs = search needs
 
-tenths-requires : tie.Need-tenths-requires
-tenths-requires c κs = rw (c .levers .ensures) (levers-within _ _ (c .before .pre))
+each-tenth-requires : tie.Need-each-tenth-requires
+each-tenth-requires c κs = rw (c .levers .ensures) (levers-within _ _ (c .before .pre))
 
 returns : tie.Need-returns
-returns c = holds-lever _ _ (c .before .levers .ensures) (c .tenths .ensures)
+returns c = holds-lever _ _ (c .before .levers .ensures) (c .each-tenth .ensures)
 
 pub curve-spec : {M : Type 1} → statement M
-curve-spec = tie.close (tie.spec levers-requires tenths-requires returns)
+curve-spec = tie.close (tie.spec levers-requires each-tenth-requires returns)

@@ -1,4 +1,4 @@
--- `curve::levers::tenths` meets its contract: the tenths passed are filled, and the last one was from the start. Assumes nothing.
+-- `curve::levers::each_tenth` meets its contract: the tenths passed are filled, and the last one was from the start. Assumes nothing.
 use mathlib.Core.Logic.{⊎-elim}
 use mathlib.Core.Path.{_≡_, refl, _∙_}
 use Prim.Native.Nat.{_+_, _/_, _-_, _≤_}
@@ -12,8 +12,8 @@ use Rattle.curve.specs.Levers.{straight}
 use Rattle.curve.proofs.Machine.{back, near}
 use Rattle.curve.proofs.Straight.{straight-end}
 use Rattle.curve.proofs.Filling.{Filled, filled-none, filled-more}
-use Rattle.curve.proofs.levers.tenths.Statement.{statement}
-use Rattle.curve.proofs.levers.tenths.Tie as tie
+use Rattle.curve.proofs.levers.each_tenth.Statement.{statement}
+use Rattle.curve.proofs.levers.each_tenth.Tie as tie
 
 abbrev Inv-loop : tie.InvT-loop
 Inv-loop g end y₀ t₀ y t = (t ≤ 600) × (length y ≡ 601) × Filled (pos 0) (straight g) t y × (getD y 600 (pos 0) ≡ straight g 600)
@@ -96,8 +96,8 @@ returns c =
       at = λ t h. ⊎-elim (λ q. rw q (l .inv .3)) (λ q. l .inv .2 .at t (omega arith)) (eq-or-lt-of-le h);
     }
 
-pub tenths-spec : {M : Type 1} → statement M
-tenths-spec =
+pub each-tenth-spec : {M : Type 1} → statement M
+each-tenth-spec =
     tie.close
     (tie.spec
     Inv-loop
