@@ -13,6 +13,7 @@ mod search;
 mod show;
 mod tally;
 mod tune;
+mod turns;
 mod weather;
 mod words;
 
@@ -20,6 +21,8 @@ mod words;
 mod tests;
 #[cfg(test)]
 mod tests_timber;
+#[cfg(test)]
+mod tests_units;
 
 pub use search::Search;
 pub use show::table;

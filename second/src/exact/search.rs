@@ -9,12 +9,14 @@ use super::levers::Levers;
 use super::rounding::{choices, Kept};
 use super::tally::{Example, Line, Tally, Used};
 use super::tune;
+use super::turns::Turns;
 use super::weather::{Verdicts, Weather};
 use super::words::word;
 use crate::book::Document;
 use crate::corpus::dice::Dice;
 use crate::criteria::{judge_document, PASS, WEATHER_END};
 use crate::curve::Y_PER_MILLIMETRE;
+use crate::unit::{MILLIMETRES, TENTHS};
 
 /// A net within reach of the edge: a tenth of a metre-degree.
 const NEAR: i128 = 100_000_000_000;
@@ -29,6 +31,10 @@ pub struct Search {
     fifth: Tally,
     /// One for each kind of curve, in the order of `KINDS`.
     eighth: [Tally; 4],
+    /// Of all texts that are judged.
+    pub turns: Turns,
+    /// Of plain ships brought to the edge with KG in millimetres.
+    pub turns_before: Turns,
 }
 
 impl Search {
@@ -39,12 +45,17 @@ impl Search {
             off: 0,
             fifth: Tally::new("peaks near 25 degrees"),
             eighth: KINDS.map(Tally::new),
+            turns: Turns::default(),
+            turns_before: Turns::default(),
         };
         for number in 0..count {
             match drawn(seed, number) {
                 None => search.missed += 1,
                 Some(document) if !smooth(&document) => search.bent += 1,
                 Some(document) => search.judge(&document),
+            }
+            if let Some(document) = drawn_before(seed, number).filter(smooth) {
+                search.turns_before.count(&document);
             }
         }
         search
@@ -58,6 +69,7 @@ impl Search {
         let Some(verdicts) = Verdicts::of(document, Kept::NONE) else {
             return;
         };
+        self.turns.count(document);
         let used = Used {
             judged: &judged,
             verdicts: &verdicts,
@@ -105,6 +117,8 @@ impl Search {
         for tally in &self.eighth {
             write_tally(out, 8, tally)?;
         }
+        self.turns.print(out, "at the edge in tenths")?;
+        self.turns_before.print(out, "at the edge in millimetres")?;
         for tally in [&self.fifth].into_iter().chain(&self.eighth) {
             for (line, (name, _)) in tally.lines.iter().zip(choices()) {
                 for example in line.best.iter().chain(&line.best_silent) {
@@ -120,12 +134,22 @@ impl Search {
 pub fn drawn(seed: u64, number: u64) -> Option<Document> {
     let mut dice = Dice::new(seed, number);
     match dice.index(20) {
-        0..=4 => tune::plain_edge(&mut dice),
+        0..=4 => tune::plain_edge(&mut dice, TENTHS),
         5..=8 => tune::clean_edge(&mut dice),
         9..=13 => tune::sagging_edge(&mut dice),
         14..=15 => tune::humped(&mut dice),
         16..=17 => tune::peak(&mut dice),
         _ => tune::border(&mut dice),
+    }
+}
+
+/// The plain ship of this number, brought to the edge as it was before request
+/// 5; none where the document of this number is of another kind.
+fn drawn_before(seed: u64, number: u64) -> Option<Document> {
+    let mut dice = Dice::new(seed, number);
+    match dice.index(20) {
+        0..=4 => tune::plain_edge(&mut dice, MILLIMETRES),
+        _ => None,
     }
 }
 

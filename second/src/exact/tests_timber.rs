@@ -10,7 +10,7 @@ use crate::sets::{CODE, TIMBER};
 
 /// The texts of `docs/ROUNDINGS.md`, each by the criteria for timber too.
 fn pairs() -> Vec<[Document; 2]> {
-    (1..=13)
+    (1..=15)
         .map(|number| {
             let code = numbered(&number.to_string());
             assert_eq!(code.condition.criteria, &CODE);

@@ -7,17 +7,17 @@ use super::roll;
 use super::rounding::{Kept, Rounding};
 use crate::book::{Document, Entry};
 use crate::corpus::dice::Dice;
-use crate::criteria::{judge_document, Wind, PASS};
+use crate::criteria::{judge_in, Wind, PASS};
 use crate::curve::{Curve, Y_PER_MILLIMETRE};
 use crate::line::down;
 use crate::loading::{laden, Laden};
 use crate::roll::{angle, period};
-use crate::unit::TENTHS;
+use crate::unit::{Unit, TENTHS};
 
 const MOST_WIND: i128 = 300_000;
 
-fn passes(document: &Document) -> bool {
-    judge_document(document).is_ok_and(|judged| judged.verdicts[7] == PASS)
+fn passes(document: &Document, unit: Unit) -> bool {
+    judge_in(document, unit).is_ok_and(|judged| judged.verdicts[7] == PASS)
 }
 
 fn curve(document: &Document) -> Option<(Laden, Curve)> {
@@ -32,12 +32,12 @@ fn wind(document: &Document) -> Option<Wind> {
 }
 
 /// The strongest wind that passes.
-fn balance(document: &mut Document) {
+fn balance(document: &mut Document, unit: Unit) {
     let (mut low, mut high) = (0, MOST_WIND + 1);
     while high - low > 1 {
         let middle = (low + high) / 2;
         document.condition.weather.wind_area = middle;
-        if passes(document) {
+        if passes(document, unit) {
             low = middle;
         } else {
             high = middle;
@@ -67,13 +67,13 @@ fn blow(document: &mut Document, lever: i128) -> Option<()> {
 /// Takes from KN at the higher stations as long as the rows stay smooth and
 /// criterion 8 passes: first from all of them, in great steps by the slope and
 /// in small ones alike, then from each alone.
-fn trim(document: &mut Document, most: u32) {
+fn trim(document: &mut Document, most: u32, unit: Unit) {
     for step in (0..=most).rev().map(|power| 1 << power) {
         let stations: &[Part] = if step > 32 { &SLOPE } else { &ALIKE };
-        take(document, stations, step);
+        take(document, stations, step, unit);
         if step <= 4 {
             for station in &ALIKE {
-                take(document, std::slice::from_ref(station), step);
+                take(document, std::slice::from_ref(station), step, unit);
             }
         }
     }
@@ -96,12 +96,12 @@ const SLOPE: [Part; 8] = [
     (11, 1),
 ];
 
-fn take(document: &mut Document, stations: &[Part], step: i128) {
+fn take(document: &mut Document, stations: &[Part], step: i128, unit: Unit) {
     let mut lower = document.clone();
     let fits = stations
         .iter()
         .all(|&(station, quarters)| lift(&mut lower, station, -step * quarters / 4));
-    if fits && smooth(&lower) && passes(&lower) {
+    if fits && smooth(&lower) && passes(&lower, unit) {
         *document = lower;
     }
 }
@@ -113,20 +113,21 @@ fn set_lever(document: &mut Document, station: usize, y: i128) -> Option<()> {
     lift(document, station, down(y - now, Y_PER_MILLIMETRE)).then_some(())
 }
 
-pub fn plain_edge(dice: &mut Dice) -> Option<Document> {
+/// At the edge with KG in this unit.
+pub fn plain_edge(dice: &mut Dice, unit: Unit) -> Option<Document> {
     let mut document = ordinary(dice);
-    balance(&mut document);
+    balance(&mut document, unit);
     slacken(dice, &mut document)?;
-    trim(&mut document, 5);
+    trim(&mut document, 5, unit);
     Some(document)
 }
 
 pub fn clean_edge(dice: &mut Dice) -> Option<Document> {
     let mut document = clean(dice)?;
-    balance(&mut document);
+    balance(&mut document, TENTHS);
     let lever = wind(&document)?.steady_lever;
     blow(&mut document, lever - lever % 2)?;
-    trim(&mut document, 9);
+    trim(&mut document, 9, TENTHS);
     Some(document)
 }
 
@@ -148,7 +149,7 @@ pub fn sagging_edge(dice: &mut Dice) -> Option<Document> {
         straighten(&mut document, last + 1)?;
         let wanted = dice.pick(&OF_THE_ROLL);
         if seek(dice, &mut document, wanted) && starts_below(&document) == Some(true) {
-            trim(&mut document, 9);
+            trim(&mut document, 9, TENTHS);
             return Some(document);
         }
     }
