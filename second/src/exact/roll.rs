@@ -76,7 +76,7 @@ pub fn angle(document: &Document, hull: &Hull, kept: Kept) -> Option<Held> {
 }
 
 /// n, or none from 2,000 on, which is decided by comparing squares.
-fn period(document: &Document, b: &Fraction, gm: &Fraction, kept: Kept) -> Option<Held> {
+pub fn period(document: &Document, b: &Fraction, gm: &Fraction, kept: Kept) -> Option<Held> {
     let ship = &document.ship;
     let long = kept.up(Rounding::C, Fraction::of(43 * ship.length, 100));
     let c = &(&Fraction::whole(373_000) + &b.times(23)) - &long;

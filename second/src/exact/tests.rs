@@ -8,6 +8,7 @@ use super::draw::{smooth, text as written};
 use super::fraction::Fraction;
 use super::hull::Hull;
 use super::levers::Levers;
+use super::roll::period;
 use super::rounding::{choices, Kept, Rounding};
 use super::search::{drawn, kind, Search, KINDS};
 use super::weather::{Verdicts, Weather};
@@ -17,6 +18,8 @@ use crate::corpus::Corpus;
 use crate::criteria::{judge_document, PASS, UNUSED};
 use crate::curve::{SINES, Y_PER_MILLIMETRE};
 use crate::instrument::{documents, read_text};
+use crate::line::read_up;
+use crate::roll::X1;
 use crate::sets::{CODE, TIMBER};
 use crate::unit::TENTHS;
 
@@ -328,42 +331,123 @@ fn the_headings_say_what_the_texts_are() {
     assert_eq!(found, 15);
 }
 
-/// The exact values that the page quotes, rounded down to hundredths.
+/// A number to hundredths, rounded down, as the page writes it.
+fn hundredths(value: &Fraction) -> String {
+    let value = value.times(100).floor();
+    format!("{}.{:02}", figured(value / 100), value % 100)
+}
+
+fn assert_said(page: &str, said: &str) {
+    assert!(page.contains(said), "the page lacks {said}");
+}
+
+fn hull(document: &Document, kept: Kept) -> Hull {
+    Hull::of(document, kept).expect("on its rows")
+}
+
+/// The exact values that the page quotes. KG is in tenths of a millimetre, the
+/// others in millimetres.
 #[test]
 fn the_exact_values_are_quoted() {
     let page = page();
     let quoted = |number: &str, name: &str, of: &dyn Fn(&Hull) -> Fraction| {
         let document = numbered(number);
-        let [used, exact] = [Kept::NONE, kept(name)]
-            .map(|kept| of(&Hull::of(&document, kept).expect("on its rows")));
-        let exact = exact.times(100).floor();
-        let (whole, part) = (figured(exact / 100), exact % 100);
-        let said = format!("{name} {whole}.{part:02} used as {}", figured(used.floor()));
-        assert!(page.contains(&said), "the page lacks {said}");
+        let [used, exact] = [Kept::NONE, kept(name)].map(|kept| of(&hull(&document, kept)));
+        let (exact, used) = (hundredths(&exact), figured(used.floor()));
+        assert_said(&page, &format!("{name} {exact} used as {used}"));
     };
     quoted("1", "KN", &|hull| hull.kn[4].clone());
     quoted("2", "KG", &|hull| hull.kg.clone());
-    quoted("2", "KM", &|hull| hull.km.clone());
     quoted("2", "lw1", &|hull| hull.lw1.clone());
+    quoted("12", "KM", &|hull| hull.km.clone());
     quoted("3", "d", &|hull| hull.draught.clone());
     quoted("5", "lw2", &|hull| hull.lw2.clone());
     quoted("11", "KG", &|hull| hull.kg.clone());
-    quoted("12", "KM", &|hull| hull.km.clone());
+    quoted("11", "KM", &|hull| hull.km.clone());
     quoted("13", "d", &|hull| hull.draught.clone());
     let document = numbered("5");
-    let hull = |kept| Hull::of(&document, kept).expect("on its rows");
-    let hundredths = |value: &Fraction| value.times(100).floor();
-    let hump = Levers::of(&hull(Kept::NONE)).y(&Fraction::whole(50));
-    assert_eq!(hundredths(&hump.part(Y_PER_MILLIMETRE)), 16_377);
-    let bare = hull(Kept::ALL);
-    assert_eq!([&bare.lw1, &bare.lw2].map(hundredths), [10_899, 16_349]);
-    for said in ["163.77 mm", "lw1 is 108.99 and lw2 163.49"] {
-        assert!(page.contains(said), "the page lacks {said}");
+    let hump = Levers::of(&hull(&document, Kept::NONE)).y(&Fraction::whole(50));
+    let hump = hundredths(&hump.part(Y_PER_MILLIMETRE));
+    assert_said(&page, &format!("The first hump of text 5, {hump} mm"));
+    let bare = hull(&document, Kept::ALL);
+    let [lw1, lw2] = [&bare.lw1, &bare.lw2].map(hundredths);
+    assert_said(&page, &format!("lw1 is {lw1} and lw2 {lw2}"));
+}
+
+/// KN of text 2 is rounded down at all stations but 0, 5 and 20 degrees, by
+/// less than 0.95 mm.
+#[test]
+fn the_kn_of_text_2() {
+    let document = numbered("2");
+    let [used, bare] = [Kept::NONE, kept("KN")].map(|kept| hull(&document, kept).kn);
+    let lost: Vec<Fraction> = bare
+        .iter()
+        .zip(&used)
+        .map(|(bare, used)| bare - used)
+        .collect();
+    let whole = |&station: &usize| lost[station] == Fraction::whole(0);
+    assert_eq!((0..13).filter(whole).collect::<Vec<_>>(), [0, 1, 4]);
+    let most = lost.iter().max().expect("thirteen of them");
+    assert_eq!(most.times(100).floor(), 94);
+    assert_said(
+        &page(),
+        "at all stations but 0°, 5° and 20°, by less than 0.95 mm",
+    );
+}
+
+/// b, n and r with this value exact; n is none from 2,000 on.
+fn of_the_roll(document: &Document, name: &str) -> (i128, Option<i128>, i128) {
+    let kept = if name == "none" {
+        Kept::NONE
+    } else {
+        kept(name)
+    };
+    let hull = hull(document, kept);
+    let b = Fraction::whole(1_000 * document.ship.breadth).over(&hull.draught);
+    let b = Fraction::whole(b.floor());
+    let n = period(document, &b, &hull.gm(), kept).map(|n| n.0.floor());
+    let height = (&hull.kg - &hull.waterline()).times(600);
+    let r = 730 + height.over(&hull.waterline()).ceiling();
+    (b.floor(), n, r)
+}
+
+/// What the page says of b, X1, n and r where d, KM or KG is exact.
+#[test]
+fn what_follows_from_a_value() {
+    let page = page();
+    let of = |number: &str, name: &str| of_the_roll(&numbered(number), name);
+    assert_eq!(of("3", "none"), (2_690, Some(807), 768));
+    assert_eq!(of("3", "d"), (2_689, Some(807), 768));
+    assert_eq!([2_690, 2_689].map(|b| read_up(&X1, b)), [951, 952]);
+    assert_eq!(
+        ["none", "KM"].map(|name| of("12", name).1),
+        [Some(960), Some(959)]
+    );
+    let periods = ["none", "KG", "KM"].map(|name| of("11", name).1);
+    assert_eq!(periods, [None, Some(1_999), Some(1_997)]);
+    assert_eq!(["none", "KG"].map(|name| of("15", name).2), [963, 962]);
+    for said in [
+        "a greater b (2,690 and 2,689), so a smaller X1 (951 and 952)",
+        "n is 807 and r 768 with both",
+        "(n 960 and 959)",
+        "of 19.99 s by the exact one",
+        "of 19.97 s by the exact one",
+        "r 963 and 962",
+    ] {
+        assert_said(&page, said);
     }
+    let above = hull(&numbered("13"), kept("d")).draught.times(15);
+    let used = hull(&numbered("13"), Kept::NONE);
+    let [kg, limit] = [used.kg, used.draught.times(15)].map(|value| figured(value.floor()));
+    let exact = hundredths(&above);
+    let said = format!(
+        "KG used, {kg}, is above 15d with the d used, {limit}, and not with the exact one, {exact}"
+    );
+    assert_said(&page, &said);
 }
 
 /// The steady heels of text 2, and its nets with KG exact in the levers or in
-/// the roll alone, and with lw1 exact and lw2 kept.
+/// the roll alone.
 #[test]
 fn what_is_kept_and_what_is_worked_out_anew() {
     let page = page();
@@ -373,45 +457,36 @@ fn what_is_kept_and_what_is_worked_out_anew() {
         let Weather::Judged(gust) = verdicts.expect("on its rows").weather else {
             panic!("it is judged");
         };
-        (&gust.start.0 + &gust.phi1.1).times(100).floor()
+        hundredths(&(&gust.start.0 + &gust.phi1.1))
     };
-    assert_eq!(heel(Kept::NONE), 10_803);
-    for (name, met) in [("KG", 10_799), ("KN", 10_797), ("lw1", 10_779)] {
+    assert_eq!(heel(Kept::NONE), "105.00");
+    for (name, met) in [("KG", "104.99"), ("KN", "104.85"), ("lw1", "104.96")] {
         assert_eq!(heel(kept(name)), met);
-        let said = format!("(108.03 and {}.{:02})", met / 100, met % 100);
-        assert!(page.contains(&said), "the page lacks {said}");
+        assert_said(&page, &format!("(105.00 and {met})"));
     }
-    let hull = |kept| Hull::of(&document, kept).expect("on its rows");
     let net = |hull: &Hull, levers: &Hull| {
         Verdicts::with(&document, hull, &Levers::of(levers), Kept::NONE).figure()
     };
-    let (used, exact) = (hull(Kept::NONE), hull(kept("KG")));
-    assert_eq!(net(&exact, &exact), -16_323_309_240);
-    assert_eq!(net(&used, &exact), -7_229_297_859);
-    assert_eq!(net(&exact, &used), -8_896_628_000);
-    let mut exact = hull(kept("lw1"));
-    assert!(exact.lw2 == Fraction::whole(539));
-    assert_eq!(net(&exact, &exact), -2_796_628_000);
-    exact.lw2 = used.lw2.clone();
-    assert!(exact.lw2 == Fraction::whole(540));
-    assert_eq!(net(&exact, &exact), -8_896_628_000);
-    for figure in [-7_229_297_859, -8_896_628_000] {
-        assert!(page.contains(&figured(figure)), "the page lacks {figure}");
-    }
+    let [used, exact] = [Kept::NONE, kept("KG")].map(|kept| hull(&document, kept));
+    assert_eq!(net(&exact, &exact), -97_299_332_544);
+    assert_eq!(net(&used, &exact), -97_299_332_544);
+    assert_eq!(net(&exact, &used), 1_440_596_260);
+    let exact = hull(&document, kept("lw1"));
+    assert!(exact.lw2 == Fraction::whole(558) && used.lw2 == exact.lw2);
+    assert_said(&page, "lw2, worked out anew, is 558 with both");
 }
 
 /// Which of the texts that are judged pass criterion 8 with all values exact,
 /// and what KN has to do with it in text 4.
 #[test]
 fn with_all_values_exact() {
-    let numbers = ["2", "3", "4", "5", "6", "7", "8", "9", "10"];
+    let numbers = ["2", "3", "12", "4", "5", "6", "7", "8", "9", "10"];
     let passed = |number: &&str| exact(&numbered(number), "all").eighth() == Some(PASS);
     let passed: Vec<&str> = numbers.into_iter().filter(passed).collect();
-    assert_eq!(passed, ["2", "3", "6", "7", "8", "9", "10"]);
+    assert_eq!(passed, ["2", "3", "12", "7", "8", "10"]);
     let page = page();
-    for (number, name) in [("2", "all"), ("3", "all"), ("4", "KN")] {
-        let figure = figured(exact(&numbered(number), name).figure());
-        assert!(page.contains(&figure), "the page lacks {figure}");
+    for (number, name) in [("2", "all"), ("3", "all"), ("12", "all"), ("4", "KN")] {
+        assert_said(&page, &figured(exact(&numbered(number), name).figure()));
     }
 }
 
