@@ -243,6 +243,29 @@ fn the_stored_examples_are_what_is_said_of_them() {
     }
 }
 
+/// The texts that the rows of part 1 name are examples for their values.
+#[test]
+fn the_texts_of_part_1_are_examples() {
+    let page = page();
+    let examples = stored();
+    let (_, part) = page.split_once("\n## 1. ").expect("a part 1");
+    let (part, _) = part.split_once("\n## 2. ").expect("a part 2");
+    let mut named = 0;
+    for row in part.lines().filter(|line| line.starts_with("| ")) {
+        let value = row
+            .trim_start_matches("| keel")
+            .trim_start_matches(['|', ' ']);
+        let name = value.split([' ', ',']).next().unwrap_or_default();
+        let numbers = row.split("text ").skip(1);
+        for number in numbers.map(|rest| rest.split(')').next().unwrap_or_default()) {
+            let known = |example: &Stored| example.head[1] == name && example.number == number;
+            assert!(examples.iter().any(known), "{name} and text {number}");
+            named += 1;
+        }
+    }
+    assert_eq!(named, 20);
+}
+
 /// All texts that are stored stand on the page, and no others.
 #[test]
 fn the_texts_of_the_page_are_stored() {

@@ -8,6 +8,7 @@ use super::tests::{exact, figured, kept, numbered, page, read, stored, Stored};
 use super::weather::Weather;
 use super::words::word;
 use crate::criteria::{judge_in, Judgement, FAIL, NOT_JUDGED, PASS};
+use crate::line::down;
 use crate::loading::laden_in;
 use crate::roll::{height_factor, period};
 use crate::unit::{Unit, MILLIMETRES, TENTHS};
@@ -79,18 +80,26 @@ fn the_texts_of_two_units_are_what_is_said_of_them() {
     assert_eq!(of_two_units().len(), 2);
 }
 
-/// The ferry's KG is 4,759.5 mm, and in tenths nothing of it is rounded.
+/// The ferry's KG is 4,759.5 mm, and in tenths nothing of it is rounded. Her
+/// greatest levers are those of the page.
 #[test]
 fn the_ferry_of_tenths_is_the_exact_one() {
     let document = numbered("14");
     let [used, bare] = [Kept::NONE, kept("KG")].map(|kept| Hull::of(&document, kept));
     let [used, bare] = [used, bare].map(|hull| hull.expect("on its rows").kg);
     assert!(used == bare && used.floor() == 47_595);
-    assert!(page().contains("4,759.5 mm"));
+    let page = page();
+    assert!(page.contains("4,759.5 mm"));
+    for (_, unit) in UNITS {
+        let judged = judge_in(&document, unit).expect("it is judged");
+        let lever = down(100 * judged.figures[6], unit.of(5_000_000));
+        let said = format!("{}.{:02} mm", lever / 100, lever % 100);
+        assert!(page.contains(&said), "the page lacks {said}");
+    }
 }
 
-/// Text 15: n, r and phi1 in millimetres and in tenths, and with KG exact the
-/// pass that she has in millimetres.
+/// Text 15: n, r, phi0 and phi1 in millimetres and in tenths, and with KG exact
+/// the pass that she has in millimetres.
 #[test]
 fn the_stiffer_ship_with_kg_exact() {
     let page = page();
@@ -106,6 +115,12 @@ fn the_stiffer_ship_with_kg_exact() {
         [(1_053, 963), (1_052, 963)]
     );
     assert!(page.contains("n 1,053 and 1,052"));
+    let heels = UNITS.map(|(_, unit)| judge_in(&document, unit).expect("it is judged"));
+    assert_eq!(
+        heels.map(|judged| judged.figures[8..=9].to_vec()),
+        [[98, 207], [97, 208]]
+    );
+    assert!(page.contains("phi0 98 and 97") && page.contains("phi1 207 and 208"));
     let exact = exact(&document, "KG");
     let Weather::Judged(gust) = &exact.weather else {
         panic!("it is judged");
