@@ -130,8 +130,8 @@ fn the_stiffer_ship_with_kg_exact() {
     assert!(page.contains(&figure), "the page lacks {figure}");
 }
 
-/// What is proved of criteria 1 to 7, and of a whole KG, on the draws of a
-/// short search; and that criterion 8 goes either way.
+/// What is proved of criteria 1 to 7 on the draws of a short search; and that
+/// criterion 8 goes either way.
 #[test]
 fn the_units_of_a_short_search() {
     let search = Search::run(20_261_115, 600);
