@@ -1,7 +1,7 @@
 -- The judgement part by part: its verdicts and figures, and what criterion 8 gives to both.
 use mathlib.Core.Path.{_≡_, refl, ap, ap₂, sym, _∙_}
 use mathlib.Core.Bool.{Bool, true, false}
-use mathlib.Core.List.{List, [], _∷_}
+use mathlib.Core.List.{List, _∷_}
 use Prim.Native.Nat.{ℕ, _*_, _^_, _≤_, _<_}
 use native.Mathlib.Omega.{arith}
 use native.Mathlib.Nat.{mul-pos}
@@ -15,9 +15,9 @@ use mir.Val.{toZ, ofZ}
 use borrow.Author.Tests.{le-leb, lt-leb}
 use Rattle.rules.specs.Blocks.{Set, code, timber}
 use Rattle.rules.specs.Curve.{Loaded, E}
-use Rattle.rules.specs.Criteria.{limitsOf, set, area1, area2, area3, greatestLever, angleOfGreatest, gm, phi0, phi0Figure, passes4, passes7}
+use Rattle.rules.specs.Criteria.{limitsOf, set, greatestLever, phi0, passes4, passes7}
 use Rattle.rules.specs.Roll.{phi1, net, notJudged, noGust, passes8}
-use Rattle.rules.specs.Report.{Verdict, fail, unjudged, slot, verdict, verdictNumber, verdict8, where8, judgement}
+use Rattle.rules.specs.Report.{Verdict, fail, unjudged, slot, verdict, verdictNumber, verdict8, where8}
 use Rattle.rules.proofs.criteria.Angles.{greatest-none}
 use Rattle.rules.proofs.criteria.Verdicts.{lever-asked, lever-short}
 use Rattle.rules.proofs.rounding.Signed.{le-false}

@@ -8,7 +8,7 @@ use native.Mathlib.Nat.{mul-assoc, mul-left-comm, mul-sub}
 use lib.Dec.{leb, ltb}
 use lib.IntN.{ℤ, pos, negsuc, negℤ, subℕ, _+ℤ_, _-ℤ_, _*ℤ_}
 use lib.Signed.{leZ}
-use Rattle.rules.specs.Rounding.{ceil, ceilZ, table, greatest, peak}
+use Rattle.rules.specs.Rounding.{ceilZ, table, greatest, peak}
 use Rattle.rules.specs.Curve.{Loaded, fifty, sines, lever, leverZ, y, E, area}
 use Rattle.rules.specs.Criteria.{set, uses, area1, area2, area3, greatestLever, angleOfGreatest, gm, lw1, lw2, units, reaches, phi0, phi0Figure, passes1, passes2, passes3, passes4, passes5, passes6, passes7}
 use Rattle.rules.specs.Roll.{b, C, q, period, k, x1, x2, s, S, p, rOf, r, phi1, longestPeriod, start, farthest, u, stays, e, net, outsideRange, notJudged, noGust, passes8}
