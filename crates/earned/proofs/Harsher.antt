@@ -1,4 +1,4 @@
--- KG 'in tenths of a millimetre, still rounded up' (request 5): in a finer unit it is no greater, so no pass of criteria 1 to 7 is lost. It follows from the order of hulls, from the one used in the coarser unit to the one used in the finer, each over its unit.
+-- KG 'in tenths of a millimetre, still rounded up' (request 5): in a unit n times as fine it is no greater, so no pass of criteria 1 to 7 is lost. It follows from the order of hulls, from the one used in the coarser unit to the one used in the finer, each over its unit.
 use mathlib.Core.Path.{_≡_, refl, ap₂, sym, _∙_}
 use mathlib.Core.Bool.{Bool, true}
 use mathlib.Core.List.{List}

@@ -9,7 +9,7 @@ use Rattle.rules.specs.Report.{pass, fail}
 use Rattle.rules.specs.Answer.{answered, answeredIn}
 use Rattle.earned.specs.Tenths.{ferry, stiffer}
 
--- ---- the ferry: KG 4,760 mm against 4,759.5 mm, greatest lever 199.76 mm against 200.05 mm
+-- ---- the ferry: KG 4,760 mm against 4,759.5 mm, greatest lever 199.75 mm against 200.04 mm
 pub ferry-before : answeredIn millimetres ferry ≡ got (record {
   verdicts = pass ∷ pass ∷ pass ∷ fail ∷ pass ∷ pass ∷ pass ∷ pass ∷ [];
   figures = pos 900_000 ∷ pos 4_760 ∷ pos 550 ∷ pos 373_937_400_000 ∷ pos 197_959_500_000 ∷ pos 571_896_900_000 ∷ pos 998_796_000 ∷ pos 350 ∷ pos 58 ∷ pos 191 ∷ pos 94_940_663_520 ∷ [];

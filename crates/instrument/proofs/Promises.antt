@@ -1,5 +1,5 @@
 -- What is promised of the instrument, to be read without the proofs: each promise is one theorem with a sentence above it, and its proof stands elsewhere.
--- All but those of texts alone (as `one-booklet`) are stated of `judge`, or of `room` or `judge_within`, through its contract, which it is proved to meet (proofs/judge, room, judge_within), or of what that leaves (`RefusedWhole`, `EachAnswered`). Their words are defined in the rules' specs/: Apart (which texts are allowed as a whole, which condition lines are, and what each says), Booklet and Answer (the order of checks, and what is answered), Report and Columns (a report's 209 characters, and where each number stands among them), Places (where a refusal may stand), Leaves and Loading (sums, masses and KG), Mistyped (typing slips), Unit (KG in a finer unit), Cargo and Timber (a C3 made a C5, and the slots of the timber set); and in specs/: Reported (where report k stands, and what is left in the buffer), Faults (1, 2, 4, 5 and 10), Outside (7 and 8) and OneTag (two condition lines that differ in one tag alone).
+-- All but those of texts alone (as `one-booklet`) are stated of `judge`, or of `room` or `judge_within`, through its contract, which it is proved to meet (proofs/judge, room, judge_within), or of what that leaves (`RefusedWhole`, `EachAnswered`). Their words are defined in the rules' specs/: Apart (which texts are allowed as a whole, which condition lines are, and what each says), Booklet and Answer (the order of checks, and what is answered), Report and Columns (a report's 209 characters, and where each number stands among them), Places (where a refusal may stand), Leaves and Loading (sums, masses and KG), Mistyped (typing slips), Unit (KG in a finer unit), Cargo and Timber (a C3 made a C5, and the slots of the timber set); and in specs/: Reported (where report k stands, and what is left in the buffer), Faults (1, 2, 4, 5 and 10), Outside (7 and 8) and OneTag (two condition lines that differ in one tag alone). The two ships of request 5 are those of `earned`, specs/Tenths.
 -- Reports, conditions and figures are counted from 0, verdicts from 1, lines of a text from 1.
 use mathlib.Core.Path.{_≡_, refl, ap, sym, _∙_}
 use mathlib.Core.Bool.{true}
@@ -220,7 +220,7 @@ module _ (text before : List ℕ) (n : ℕ) (after : List ℕ) (run : Judges tex
           pub unit-keeps-number : HasNumber (numberOf (judgedIn millimetres (readingAt (a .0) (c .0)))) (reportIn k after)
           unit-keeps-number = units.number-sent line c fits
 
-          -- Where the condition is judged and its KG came out whole, ten times a whole number of tenths, report k is that of this judgement, character by character, but for the figures of KG, GM, the three areas, the lever and the net, which are ten times as great: all eight verdicts are the same, in either set, and so are W, the angles and the roll.
+          -- Where the condition is judged and its KG came out whole, in tenths ten times a whole number, report k is that of this judgement, character by character, but for the figures of KG, GM, the three areas, the lever and the net, which are ten times as great: all eight verdicts are the same, in either set, and so are W, the angles and the roll.
           pub whole-kg-keeps-verdicts : HasNumber 0 (reportIn k after) → (j : ℕ) → correctedKG (entriesOf (readingAt (a .0) (c .0))) ≡ 10 * j → reportIn k after ≡ report 0 0 0 (manifold 10 (judgement (loadedIn millimetres (readingAt (a .0) (c .0)))))
           whole-kg-keeps-verdicts = units.whole-sent line c fits
 
@@ -473,7 +473,7 @@ pub ferry-passes : Sends ferry 0 (report 0 0 0 (record {
 }))
 ferry-passes = let j = sheet.judged-report ferry (ships.ferry-passes .1) in sends ferry (sheet.ships-one .0) (j .0) (j .1)
 
--- .. and a ship that passed all eight in millimetres, with a net of +3,589,509,992, loses criterion 8. (What both read in millimetres: the theorems of these names in the promises of `earned`.)
+-- .. and a ship that passed all eight in millimetres, with a net of +3,589,509,992 in their units, loses criterion 8. (What both read in millimetres: the theorems of these names in the promises of `earned`.)
 pub eighth-can-be-lost : Sends stiffer 0 (report 0 0 0 (record {
   verdicts = pass ∷ pass ∷ pass ∷ pass ∷ pass ∷ pass ∷ pass ∷ fail ∷ [];
   figures = pos 4_740_521 ∷ pos 46_731 ∷ pos 6_909 ∷ pos 4_983_514_315_000 ∷ pos 3_327_086_637_500 ∷ pos 8_310_600_952_500 ∷ pos 18_230_212_950 ∷ pos 450 ∷ pos 97 ∷ pos 208 ∷ negℤ (pos 9_353_477_464) ∷ [];
