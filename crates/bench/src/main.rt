@@ -1,4 +1,6 @@
 // For each text of the stream on standard input the number that is sent back, in a line of its own, and the report lines, in order.
+#![tactic(auto)]
+
 ghost use Rattle.std.specs.Prelude.{◌≤◌, length};
 
 use libc::STDOUT_FILENO;

@@ -9,21 +9,21 @@ use crate::refusal;
 use numbers::{both, either, fits, u16_at, u32_at};
 
 // The kinds of tank, C3 and C5.
-#[derive(Drop)]
+#[derive(Clone, Copy)]
 pub enum TankKind {
     Ordinary,
     Cargo,
 }
 
 // The kinds of entry.
-#[derive(Drop)]
+#[derive(Clone, Copy)]
 pub enum Kind {
     Item,
     Tank(TankKind),
 }
 
 // What a tag stands for among the entries.
-#[derive(Drop)]
+#[derive(Clone, Copy)]
 pub enum Tag {
     Entry(Kind),
     Group,
@@ -31,13 +31,13 @@ pub enum Tag {
 }
 
 // The values of an item, and of a tank.
-#[derive(Drop)]
+#[derive(Clone, Copy)]
 pub struct Item {
     pub mass: u64,
     pub centre: u64,
 }
 
-#[derive(Drop)]
+#[derive(Clone, Copy)]
 pub struct Tank {
     pub mass: u64,
     pub centre: u64,
@@ -47,14 +47,14 @@ pub struct Tank {
 }
 
 // What the body of an entry holds: what it adds to the sums, or one of them outside its limits.
-#[derive(Drop)]
+#[derive(Clone, Copy)]
 pub enum Held {
     Within(book::Sums),
     Outside,
 }
 
 // A block among the entries.
-#[derive(Drop)]
+#[derive(Clone, Copy)]
 pub enum Block {
     Entry(book::Sums),
     Group,

@@ -1,5 +1,7 @@
 // Blocks: how a block begins, and the blocks of fixed size. Each answers with its values by name, or with the refusal and its place:
 // 'at each block 2, 4, 3, 5, 6', and at a row 10.
+#![tactic(auto)]
+
 pub mod entries;
 pub mod row;
 pub mod ship;
@@ -13,7 +15,7 @@ ghost use Rattle.blocks.specs.BlockAnswers.{begun_of};
 use numbers::u16_at;
 
 // The tag and the length of the body, which lies inside the parent; or 2.
-#[derive(Drop)]
+#[derive(Clone, Copy)]
 pub enum Begun {
     Block { tag: u8, len: usize },
     Short,

@@ -10,7 +10,7 @@ ghost use Rattle.blocks.specs.BlockAnswers.{row_read, row_fault};
 use crate::refusal;
 use numbers::{both, fits, u16_at, u32_at};
 
-#[derive(Drop)]
+#[derive(Clone, Copy)]
 pub enum RowAnswer {
     Within,
     Refused(book::Refusal),
@@ -29,7 +29,7 @@ impl RowAnswer {
 }
 
 // A row beside its answer, blank where it is refused.
-#[derive(Drop)]
+#[derive(Clone, Copy)]
 pub struct RowRead {
     pub answer: RowAnswer,
     pub row: book::Row,

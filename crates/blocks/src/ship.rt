@@ -9,7 +9,7 @@ ghost use Rattle.blocks.specs.BlockAnswers.{ship_read, ship_fault};
 use crate::refusal;
 use numbers::{both, fits, u32_at, wide};
 
-#[derive(Drop)]
+#[derive(Clone, Copy)]
 pub enum ShipRead {
     Within(book::Ship),
     Refused(book::Refusal),

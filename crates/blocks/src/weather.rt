@@ -9,13 +9,13 @@ use crate::refusal;
 use numbers::{both, fits, u16_at, u32_at};
 
 // The set of criteria that a tag chooses, if any.
-#[derive(Drop)]
+#[derive(Clone, Copy)]
 pub enum Choice {
     Set(book::Set),
     None,
 }
 
-#[derive(Drop)]
+#[derive(Clone, Copy)]
 pub enum WeatherRead {
     Within(book::Weather),
     Refused(book::Refusal),

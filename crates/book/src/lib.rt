@@ -1,8 +1,9 @@
 // The ship's book in plain data: what is read of a text and handed on by value, with names from document 01.
 // Lengths are millimetres, but a KG is tenths of one; masses kilograms, angles tenths of a degree.
+#![tactic(auto)]
 
 // A1.
-#[derive(Drop)]
+#[derive(Clone, Copy)]
 pub struct Ship {
     pub length: u64,
     pub breadth: u64,
@@ -11,7 +12,7 @@ pub struct Ship {
 }
 
 // A2: one row of the KN table.
-#[derive(Drop)]
+#[derive(Clone, Copy)]
 pub struct Row {
     pub mass: u64,
     pub draught: u64,
@@ -20,21 +21,21 @@ pub struct Row {
 }
 
 // The rows of a text, the first `count` of them; those beyond are blank.
-#[derive(Drop)]
+#[derive(Clone, Copy)]
 pub struct Table {
     pub rows: [Row; 40],
     pub count: usize,
 }
 
 // The sets of criteria: C1 chooses the Code's, C6 the one for timber on deck.
-#[derive(Drop)]
+#[derive(Clone, Copy)]
 pub enum Set {
     Code,
     Timber,
 }
 
 // C1 or C6.
-#[derive(Drop)]
+#[derive(Clone, Copy)]
 pub struct Weather {
     pub set: Set,
     pub wind: u64,
@@ -45,7 +46,7 @@ pub struct Weather {
 }
 
 // What the entries add up to: how many, masses, mass moments, free surface moments.
-#[derive(Drop)]
+#[derive(Clone, Copy)]
 pub struct Sums {
     pub count: u64,
     pub mass: u64,
@@ -54,7 +55,7 @@ pub struct Sums {
 }
 
 // The number, the line and the offset that are sent back for a text that is not judged.
-#[derive(Drop)]
+#[derive(Clone, Copy)]
 pub struct Refusal {
     pub number: u8,
     pub line: usize,
@@ -69,7 +70,7 @@ pub const NO_REFUSAL: Refusal = Refusal {
 };
 
 // The loaded ship: the displacement W, the corrected KG, and what the table gives at W.
-#[derive(Drop)]
+#[derive(Clone, Copy)]
 pub struct Loaded {
     pub ship: Ship,
     pub weather: Weather,
@@ -81,7 +82,7 @@ pub struct Loaded {
 }
 
 // Eight verdicts by their numbers (0 fail, 1 pass, 2 not judged, 3 refused, 4 unused), and eleven figures.
-#[derive(Drop)]
+#[derive(Clone, Copy)]
 pub struct Judgement {
     pub verdicts: [u8; 8],
     pub figures: [i64; 11],

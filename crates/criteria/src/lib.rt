@@ -1,5 +1,7 @@
 // The eight criteria, in the set that the weather chose: from the loaded ship to eight verdicts and eleven figures.
 // The curve at each tenth of a degree and the area up to each are worked out once; every lever, angle and area is taken from them.
+#![tactic(auto)]
+
 ghost use Rattle.std.specs.Prelude.{◌≡◌};
 ghost use Rattle.rules.specs.Report.{judgement};
 ghost use Rattle.rules.specs.Ranges.{Fair};

@@ -9,7 +9,7 @@ ghost use Rattle.criteria.specs.Figures.{righting_of};
 use book::Loaded;
 
 // Areas and the greatest lever in y units, the angle of the greatest in tenths of a degree, GM in tenths of a millimetre.
-#[derive(Drop)]
+#[derive(Clone, Copy)]
 pub struct Righting {
     pub area1: i64,
     pub area2: i64,

@@ -9,7 +9,7 @@ use book::Set;
 
 // The limits of 1 to 7 (areas and the lever in y units, angles in tenths of a degree, GM in tenths of a millimetre), from which angle 4 looks,
 // whether the deck edge counts in 7, and which of the eight slots are used.
-#[derive(Drop)]
+#[derive(Clone, Copy)]
 pub struct Criteria {
     pub area1: i64,
     pub area2: i64,

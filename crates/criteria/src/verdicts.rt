@@ -54,7 +54,7 @@ fn upright(c: Loaded, set: Criteria, phi0: usize) -> bool
 }
 
 // What the report says of 8: its verdict, 2 where it is not judged, the roll and the net area.
-#[derive(Drop)]
+#[derive(Clone, Copy)]
 pub struct Eighth {
     pub verdict: u8,
     pub roll: i64,

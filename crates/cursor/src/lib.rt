@@ -1,12 +1,14 @@
 // A small reader: the bytes that are left of a parent, and the place, line and offset, at which the first of them stands. 'Blocks as they
 // begin, first byte to last.' The functions over it are thin: each takes it apart, and calls functions on the slice and the numbers.
+#![tactic(auto)]
+
 ghost use Rattle.std.specs.Prelude.{◌≡◌, ◌+◌, ◌≤◌, ◌<◌, ◌^◌, length};
 ghost use Rattle.rules.specs.Walk.{header};
 ghost use Rattle.cursor.specs.BlockParts.{head_of, head_fault, starts, ends, bytes_of, further};
 ghost use Rattle.cursor.specs.Readers.{Opened, Begins, OverPart};
 
 // A block that lies inside its parent, or 2 with its place.
-#[derive(Drop)]
+#[derive(Clone, Copy)]
 pub enum Head {
     Block { tag: u8, len: usize },
     Refused(book::Refusal),
@@ -25,7 +27,7 @@ impl Head {
 }
 
 // What a block parts its parent into: its body, and what stands after it.
-#[derive(Drop)]
+#[derive(Clone, Copy)]
 pub enum Part {
     Body,
     Rest,
@@ -82,7 +84,7 @@ pub fn onward(at: usize, part: Part, len: usize) -> usize
 }
 
 // ---- the reader
-#[derive(Drop)]
+#[derive(Clone, Copy)]
 pub struct Reader<'a> {
     pub src: &'a [u8],
     pub line: usize,

@@ -10,7 +10,7 @@ use book::{Refusal, Sums, Table};
 const GREATEST_KG: u64 = 600_000;
 
 // The ship's weight and its centre, or why it is not judged.
-#[derive(Drop)]
+#[derive(Clone, Copy)]
 pub enum Weighed {
     Fine { w: u64, kg: u64 },
     Refused(Refusal),

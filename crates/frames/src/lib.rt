@@ -1,5 +1,7 @@
 // Frames: the ship's, a row's, a condition's, and the entries with the groups within it. The first fault met ends the reading:
 // each answer is taken, or its refusal is returned with its place.
+#![tactic(auto)]
+
 ghost use Rattle.std.specs.Prelude.{◌≡◌, ◌+◌, ◌-◌, ◌≤◌, length};
 ghost use Rattle.rules.specs.Layout.{most_entries, most_bytes};
 ghost use Rattle.rules.specs.Outcome.{refused};
@@ -27,7 +29,7 @@ const MOST_BYTES: usize = 4_096;
 
 const MOST_ROWS: usize = 40;
 
-#[derive(Drop)]
+#[derive(Clone, Copy)]
 pub enum LoadRead {
     Sum(book::Sums),
     Refused(book::Refusal),
@@ -46,13 +48,13 @@ impl LoadRead {
 }
 
 // A3: the weather, and what the entries add up to.
-#[derive(Drop)]
+#[derive(Clone, Copy)]
 pub struct Condition {
     pub weather: book::Weather,
     pub sums: book::Sums,
 }
 
-#[derive(Drop)]
+#[derive(Clone, Copy)]
 pub enum ConditionRead {
     Within(Condition),
     Refused(book::Refusal),

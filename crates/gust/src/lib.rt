@@ -1,5 +1,7 @@
 // The heel under steady wind, and criterion 8: the roll to windward, how far the gust is withstood, and the net area.
 // Levers and areas are taken from the arrays of y at each tenth of a degree and of the area up to each.
+#![tactic(auto)]
+
 ghost use Rattle.std.specs.Prelude.{◌≡◌, false, ◌≤◌, pos, nat_abs};
 ghost use Rattle.rules.specs.Loading.{tenths};
 ghost use Rattle.rules.specs.Curve.{y as yOf, area as areaOf};
@@ -13,7 +15,7 @@ use book::Loaded;
 use roll::Roll;
 
 // The wind levers in y units, and phi0: past the flooding angle where there is none.
-#[derive(Drop)]
+#[derive(Clone, Copy)]
 pub struct Wind {
     pub lw1: i64,
     pub lw2: i64,
@@ -21,7 +23,7 @@ pub struct Wind {
 }
 
 // What criterion 8 comes to.
-#[derive(Drop)]
+#[derive(Clone, Copy)]
 pub enum Gust {
     NotJudged,
     Failed,

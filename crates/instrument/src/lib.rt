@@ -1,4 +1,6 @@
 // The instrument: one text in, one report line out for each of its conditions. Every text of every length is answered, and no caller is asked to have looked first.
+#![tactic(auto)]
+
 ghost use Rattle.std.specs.Prelude.{◌≡◌, cond, ◌≤◌, ◌<◌, eqb, length};
 ghost use Rattle.rules.specs.Outcome.{refused};
 ghost use Rattle.rules.specs.Layout.{most_characters};
@@ -111,7 +113,7 @@ fn judge_conditions(text: &[u8], front: Front, table: book::Table, report: &mut 
 }
 
 // What is sent back: the number of document 01 and request 4 (0 to 10), and how many bytes of the buffer are written.
-#[derive(Drop)]
+#[derive(Clone, Copy)]
 pub struct Reply {
     pub number: u8,
     pub length: usize,

@@ -1,4 +1,6 @@
 // Numbers in bytes, 'big-endian and unsigned', the lesser of two, and tests joined: what the reading of characters, of blocks and of a stream shares.
+#![tactic(auto)]
+
 ghost use Rattle.std.specs.Prelude.{◌≡◌, ◌&&◌, ◌||◌, ◌+◌, ◌<◌, min, length, leb};
 ghost use Rattle.rules.specs.Parts.{be2, be4};
 

@@ -1,5 +1,7 @@
 // A whole text: line after line is checked and counted, the ship and the rows are read, and each condition line is left for itself.
 // Every character is looked at once, an LF and the one behind it twice; those of a condition line once more when it is read.
+#![tactic(auto)]
+
 ghost use Rattle.std.specs.Prelude.{◌≡◌, [], ◌≤◌, ◌<◌, length};
 ghost use Rattle.rules.specs.Layout.{most_rows, is_condition};
 ghost use Rattle.rules.specs.Walk.{ship_frame};
@@ -37,14 +39,14 @@ const SHIP_LINE: usize = 2 * SHIP_BYTES + 1;
 const ROW_LINE: usize = 2 * ROW_BYTES + 1;
 
 // What a text says before its conditions: the ship, and where the first condition line begins.
-#[derive(Drop)]
+#[derive(Clone, Copy)]
 pub struct Front {
     pub ship: book::Ship,
     pub at: usize,
 }
 
 // How far a text has been read.
-#[derive(Drop)]
+#[derive(Clone, Copy)]
 pub enum State {
     // The ship's frame is awaited.
     Awaited,
@@ -57,7 +59,7 @@ pub enum State {
 }
 
 // A line moves the state on, and may add a row; the row is blank where it adds none.
-#[derive(Drop)]
+#[derive(Clone, Copy)]
 pub struct Moved {
     pub state: State,
     pub adds: bool,
@@ -65,13 +67,13 @@ pub struct Moved {
 }
 
 // The condition lines so far, wherever they stand, and the number of the 25th, 0 before it has come.
-#[derive(Drop)]
+#[derive(Clone, Copy)]
 pub struct Tally {
     pub conditions: usize,
     pub over: usize,
 }
 
-#[derive(Drop)]
+#[derive(Clone, Copy)]
 pub enum Answer {
     Whole(Front),
     Refused(book::Refusal),
@@ -90,7 +92,7 @@ impl Answer {
 }
 
 // What was read; the table beside it, blank on a refusal; and how many condition lines there are, none where 1 or the 25th refuses the text.
-#[derive(Drop)]
+#[derive(Clone, Copy)]
 pub struct TextRead {
     pub answer: Answer,
     pub table: book::Table,
@@ -98,7 +100,7 @@ pub struct TextRead {
 }
 
 // A condition line, and how many characters it takes with its LF; none where there is no line.
-#[derive(Drop)]
+#[derive(Clone, Copy)]
 pub struct ConditionLine {
     pub read: ConditionRead,
     pub taken: usize,

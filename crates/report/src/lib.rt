@@ -1,4 +1,6 @@
 // The report: 'one frame and LF, 209 characters'. The frame is made in binary first, then written two characters to a byte.
+#![tactic(auto)]
+
 mod binary;
 mod characters;
 

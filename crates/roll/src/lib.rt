@@ -1,4 +1,6 @@
 // The wind levers of criterion 7, and the roll to windward of criterion 8 (Code 2.3.4).
+#![tactic(auto)]
+
 ghost use Rattle.std.specs.Prelude.{◌≡◌, false, ◌*◌, ◌<◌};
 ghost use Rattle.rules.specs.Roll.{b as bOf, C as cOf, period as periodOf, k as k_of, p as pOf, r as r_of, phi1 as phi1Of, outside_range, not_judged};
 ghost use Rattle.rules.specs.Ranges.{Fair};
@@ -10,14 +12,14 @@ use book::Loaded;
 mod tables;
 
 // The steady wind's lever and the gust's, in mm.
-#[derive(Drop)]
+#[derive(Clone, Copy)]
 pub struct WindLevers {
     pub lw1: u64,
     pub lw2: u64,
 }
 
 // The angle of roll to windward, where the weather criterion is judged.
-#[derive(Drop)]
+#[derive(Clone, Copy)]
 pub enum Roll {
     NotJudged,
     Angle(u64),

@@ -1,4 +1,6 @@
 // The program: reads standard input, at most 60,001 characters of it, and prints the report lines, one for each condition.
+#![tactic(auto)]
+
 ghost use Rattle.std.specs.Prelude.{length};
 ghost use Rattle.rostblume.specs.Input.{Fits};
 
@@ -7,7 +9,7 @@ use libc::{STDIN_FILENO, STDOUT_FILENO};
 // 'The program up to 60,000, answering 1 beyond.'
 const MOST_CHARACTERS: usize = 60_000;
 
-#[derive(Drop)]
+#[derive(Clone, Copy)]
 pub enum Input {
     // That many characters stand at the front of the buffer.
     Text(usize),

@@ -1,4 +1,6 @@
 // Division with its exact rounding, the straight line between points, tables of points, and the greatest number whose square fits.
+#![tactic(auto)]
+
 ghost use Rattle.std.specs.Prelude.{◌≡◌, true, ◌+◌, ◌-◌, ◌*◌, ◌/◌, ◌^◌, max, ◌≤◌, ◌<◌, leb, pos, nat_abs, ◌<ℤ◌};
 ghost use Rattle.rules.specs.Rounding.{ceil, ceil_z, point, down, up, span, line, table, greatest};
 ghost use Rattle.rounding.specs.Points.{Between, points_of, tabled};

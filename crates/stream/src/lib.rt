@@ -1,17 +1,19 @@
 // A stream of texts on standard input: for each text three times four bytes, the highest first, with its length, the limit of characters and
 // the bytes of room in the buffer; and then the text.
+#![tactic(auto)]
+
 ghost use Rattle.std.specs.Prelude.{length};
 ghost use Rattle.stream.specs.Stream.{Fits};
 
 // A text of `len` bytes stands at the front of the buffer.
-#[derive(Drop)]
+#[derive(Clone, Copy)]
 pub struct Text {
     pub len: usize,
     pub limit: usize,
     pub room: usize,
 }
 
-#[derive(Drop)]
+#[derive(Clone, Copy)]
 pub enum Next {
     Text(Text),
     // The stream has ended.

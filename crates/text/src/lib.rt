@@ -1,18 +1,20 @@
 // Characters: the line at the front of a text, pair by pair, and then what ends it. As many of its bytes are kept as the buffer holds; the
 // others are only checked and counted.
+#![tactic(auto)]
+
 ghost use Rattle.std.specs.Prelude.{◌≡◌, ◌<◌, length, take, replicate};
 ghost use Rattle.rules.specs.Text.{digit};
 ghost use Rattle.text.specs.Line.{digits_up_to, Digits, pair_of, decoded, over, ended, line_of};
 
 use numbers::least;
 
-#[derive(Drop)]
+#[derive(Clone, Copy)]
 pub enum Pair {
     Byte(u8),
     Not,
 }
 
-#[derive(Drop)]
+#[derive(Clone, Copy)]
 pub enum LineRead {
     // A line of that many bytes.
     Line(usize),

@@ -35,7 +35,7 @@ Bytes-block t body h l B = (h, Bytes-append (digits 2 (length body)) body (Bytes
 
 pub Bytes-fixed : {A : Type 0} (L : Layout A) (W : Lawful L) (a : A) → ok L a ≡ true → Bytes (spell_block L a)
 unfolding spell_block
-Bytes-fixed L W a e = Bytes-block L.tag (spell_values L.fields (L.listed a)) W.tag-Fits (length_fits L W a e) (Bytes-spell L W a e)
+Bytes-fixed L W a e = Bytes-block L.tag (spell_values L.fields (L.listed a)) W.tag_fits (length_fits L W a e) (Bytes-spell L W a e)
 
 module _ (ln at : ℕ) where
   -- ---- the head

@@ -1,0 +1,26 @@
+-- `line_at` meets its contract: two characters to a byte, so that the line's end lies within the text.
+use mathlib.Core.Path.{subst, sym, ◌∙◌}
+use native.Mathlib.Omega.{arith}
+use Rattle.text.specs.Line.{Digits}
+use Rattle.text.proofs.Digits.{table_digits}
+use Rattle.text.proofs.Decoded.{decoded_half, same_room}
+use Rattle.text.proofs.Ended.{line_ended}
+use borrow.Author.Rules.{rules}
+use Rattle.text.proofs.line_at.Goals as goal
+
+pub decode-first-requires : goal.decode-first-requires
+decode-first-requires c = subst Digits (sym c.fill_digits.ensures) table_digits
+
+pub all_pairs-n-requires : goal.all_pairs-n-requires
+all_pairs-n-requires c =
+    (subst Digits (sym c.fill_digits.ensures) table_digits, same_room _ _ _ _ c.decode-first.ensures)
+
+pub overflow_mul-n : goal.overflow_mul-n
+overflow_mul-n c = omega (arith, c.all_pairs-n.ensures, decoded_half c.args.text.now)
+
+pub slice_bounds-ends-count : goal.slice_bounds-ends-count
+slice_bounds-ends-count c = omega (arith, c.all_pairs-n.ensures, decoded_half c.args.text.now)
+
+pub returns : goal.returns
+returns c =
+    (c.ends.ensures ∙ line_ended _ c.all_pairs-n.result c.all_pairs-n.ensures, c.decode-first.ensures.1)
