@@ -6,7 +6,6 @@ use lib.ListN.{length}
 use Rattle.rules.proofs.layout.Parts.{part_end}
 use Rattle.text.specs.Line.{decoded}
 use Rattle.text.proofs.Decoded.{decoded_half, first_all, first_some, passed_rest}
-use borrow.Author.Rules.{rules}
 use Rattle.text.proofs.all_pairs.Goals as goal
 
 pub returns-then-first-room : goal.returns-then-first-room
@@ -14,6 +13,9 @@ returns-then-first-room c = first_all c.args.text.now c.args.first c.args.room c
 
 pub overflow_mul-first : goal.overflow_mul-first
 overflow_mul-first c = omega (arith, decoded_half c.args.text.now, first_some c.args.text.now c.args.first c.args.room c.requires.1)
+
+pub slice_bounds-pairs-start : goal.slice_bounds-pairs-start
+slice_bounds-pairs-start c = omega (arith, decoded_half c.args.text.now, first_some c.args.text.now c.args.first c.args.room c.requires.1)
 
 pub slice_bounds-pairs-count : goal.slice_bounds-pairs-count
 slice_bounds-pairs-count c = omega (arith, decoded_half c.args.text.now, first_some c.args.text.now c.args.first c.args.room c.requires.1)

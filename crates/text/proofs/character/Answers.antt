@@ -1,5 +1,4 @@
 -- `character` meets its contract: ten digits, and then letters.
-use borrow.Author.Rules.{rules}
 use borrow.Author.Tests.{lt-ltb, le-ltb}
 use Rattle.rules.specs.Text.{digit}
 use Rattle.text.proofs.character.Goals as goal

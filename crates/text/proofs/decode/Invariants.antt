@@ -1,9 +1,6 @@
 -- `decode` meets its contract: the pairs before n are decoded, the others are still to come.
-use borrow.Author.Rules.{rules}
 use Prim.Native.Nat.{◌-◌, ◌≤◌}
-use mathlib.Core.Path.{sym, ◌∙◌}
-use native.Mathlib.Omega.{arith}
-use Rattle.text.proofs.Decoded.{Going, going_none, going_more, going_done, going_end, no_pair}
+use Rattle.text.proofs.Decoded.{Going}
 use Rattle.text.proofs.decode.Given as goal
 
 abbrev pub invariant-loop-n : goal.invariant-loop-n

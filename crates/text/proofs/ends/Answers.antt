@@ -1,7 +1,6 @@
 -- `ends` meets its contract: test by test.
 use mathlib.Core.Path.{sym}
 use native.Mathlib.Omega.{arith}
-use borrow.Author.Rules.{rules}
 use Rattle.text.proofs.Ended.{ended_end, ended_open, ended_empty, ended_line, ended_other}
 use Rattle.text.proofs.ends.Goals as goal
 

@@ -1,9 +1,7 @@
 -- `fill_digits` meets its contract: digit after digit, each at its character's place.
-use mathlib.Core.Path.{◌≡◌, ap, sym, ◌∙◌}
-use Prim.Native.Nat.{◌-◌, ◌≤◌}
+use mathlib.Core.Path.{ap, ◌∙◌}
 use native.Mathlib.Omega.{arith}
 use lib.ListN.{length}
-use borrow.Author.Rules.{rules}
 use Rattle.text.specs.Line.{digits_up_to}
 use Rattle.text.proofs.Digits.{table_length, next_digit, character_below}
 use Rattle.text.proofs.fill_digits.Goals as goal

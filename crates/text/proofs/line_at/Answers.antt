@@ -5,7 +5,6 @@ use Rattle.text.specs.Line.{Digits}
 use Rattle.text.proofs.Digits.{table_digits}
 use Rattle.text.proofs.Decoded.{decoded_half, same_room}
 use Rattle.text.proofs.Ended.{line_ended}
-use borrow.Author.Rules.{rules}
 use Rattle.text.proofs.line_at.Goals as goal
 
 pub decode-first-requires : goal.decode-first-requires
@@ -17,6 +16,9 @@ all_pairs-n-requires c =
 
 pub overflow_mul-n : goal.overflow_mul-n
 overflow_mul-n c = omega (arith, c.all_pairs-n.ensures, decoded_half c.args.text.now)
+
+pub slice_bounds-ends-start : goal.slice_bounds-ends-start
+slice_bounds-ends-start c = omega (arith, c.all_pairs-n.ensures, decoded_half c.args.text.now)
 
 pub slice_bounds-ends-count : goal.slice_bounds-ends-count
 slice_bounds-ends-count c = omega (arith, c.all_pairs-n.ensures, decoded_half c.args.text.now)

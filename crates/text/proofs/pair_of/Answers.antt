@@ -1,5 +1,4 @@
 -- `pair_of` meets its contract: the table has the value of each character, and a digit's is below 16, so that the byte fits.
-use borrow.Author.Rules.{rules}
 use borrow.Author.Tests.{lt-ltb, le-ltb}
 use native.Mathlib.Omega.{arith}
 use Rattle.text.specs.Line.{pair_of}
