@@ -131,7 +131,8 @@ def imported(root):
 
 def main():
     root = os.getcwd()
-    names = {n: p for n, p in declared(root).items() if n not in imported(root)}
+    theirs = imported(root)
+    names = {n: p for n, p in declared(root).items() if n not in theirs}
     table = {n: respelled(n) for n in names if respelled(n) != n}
     if "--list" in sys.argv:
         for n in sorted(table):

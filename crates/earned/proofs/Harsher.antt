@@ -16,7 +16,7 @@ use Rattle.rules.proofs.rounding.Rounding.{ceiling_least}
 use Rattle.rules.proofs.rounding.Divisions.{kg_up}
 use Rattle.rules.proofs.answer.EitherUnit.{sixth_in_millimetres}
 use Rattle.earned.specs.Verdicts.{six}
-use Rattle.earned.specs.Lower.{KeepsSeven}
+use Rattle.earned.specs.Tenths.{KeepsSeven}
 use Rattle.earned.proofs.Keeps.{verdict_is}
 use Rattle.earned.proofs.Exact as exacts
 use Rattle.earned.proofs.TwoKGs.{keeps_seven}

@@ -18,7 +18,8 @@ use Rattle.rules.proofs.layout.Counts.{kg_600000}
 use Rattle.rules.proofs.loading.Sums.{total_leaves, displacement_leaves}
 use Rattle.rules.proofs.loading.Fair.{weighed_inv, floats}
 use Rattle.earned.specs.Verdicts.{Criterion, passes_over, passes_fifth, used}
-use Rattle.earned.specs.Lower.{NoWorse, KeepsSeven, NoHigher}
+use Rattle.earned.specs.Tenths.{KeepsSeven}
+use Rattle.earned.specs.Lower.{NoWorse, NoHigher}
 use Rattle.earned.proofs.TwoKGs as kgs
 
 -- ---- two KGs in one unit

@@ -32,7 +32,7 @@ use Rattle.earned.specs.Example.{text, reading}
 use Rattle.earned.specs.Gust.{y_by, units_by, phi0_by, PassesAt, start_by, e_by, net_by, gusts, Exactly, NowhereBelow}
 use Rattle.earned.specs.Rolling.{NoShorter, WithinRoll}
 use Rattle.earned.specs.Tenths.{ferry, stiffer}
-use Rattle.earned.specs.Lower.{KeepsSeven}
+use Rattle.earned.specs.Tenths.{KeepsSeven}
 use Rattle.earned.proofs.Order as orders
 use Rattle.earned.proofs.Keeps as keeping
 use Rattle.earned.proofs.Exact as exacts

@@ -15,7 +15,8 @@ use Rattle.rules.specs.Report.{pass, slot, verdict, judgement}
 use Rattle.rules.proofs.criteria.EitherSet.{verdicts_are, slot_pass}
 use Rattle.earned.specs.Order.{Better, curve, Follows}
 use Rattle.earned.specs.Verdicts.{Criterion, one, two, three, four, six, seven, passes_over, passes_fifth, passes, place, used}
-use Rattle.earned.specs.Lower.{NoWorse, KeepsSeven}
+use Rattle.earned.specs.Tenths.{KeepsSeven}
+use Rattle.earned.specs.Lower.{NoWorse}
 use Rattle.earned.proofs.Order.{difference, order}
 use Rattle.earned.proofs.Keeps.{get_or_finer, curve_used, keeps, over_unit, verdict_is}
 use Rattle.earned.proofs.Fifth.{angle_order, fifth_keeps, fifth_over_unit, flooding_to}

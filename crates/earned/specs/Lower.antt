@@ -20,10 +20,6 @@ pub record NoWorse (m n : ℕ) (c c' : Loaded) : Type 0 where
   -- GM is no less.
   pub gm : NoLess m n (criteria.gm c) (criteria.gm c')
 
--- From one ship that is judged to another, each slot from 1 to 7 that reads pass reads pass still.
-abbrev pub KeepsSeven : Loaded → Loaded → Type 0
-KeepsSeven c c' = (i : ℕ) → 1 ≤ i → i ≤ 7 → slot_of i (judgement c) ≡ pass → slot_of i (judgement c') ≡ pass
-
 -- ---- readings
 -- 'The same ship frame, rows and weather block, the same total mass', and 'the mass moments with free surface of the first are no greater'.
 pub record NoHigher (r s : Reading) : Type 0 where

@@ -1,6 +1,13 @@
--- KG in tenths of a millimetre against millimetres, 'half a millimetre too much' (request 5): two texts that are judged otherwise.
-use Rattle.std.specs.Prelude.{List, [], ◌∷◌, ℕ}
+-- KG in tenths of a millimetre against millimetres, 'half a millimetre too much' (request 5): which slots keep a pass, and two texts that are judged otherwise.
+use Rattle.std.specs.Prelude.{◌≡◌, List, [], ◌∷◌, ℕ, ◌≤◌}
+use Rattle.rules.specs.Curve.{Loaded}
+use Rattle.rules.specs.Columns.{slot_of}
+use Rattle.rules.specs.Report.{pass, judgement}
 use Rattle.rules.proofs.bench.Cases.{lines}
+
+-- From one ship that is judged to another, each slot from 1 to 7 that reads pass reads pass still.
+abbrev pub KeepsSeven : Loaded → Loaded → Type 0
+KeepsSeven c c' = (i : ℕ) → 1 ≤ i → i ≤ 7 → slot_of i (judgement c) ≡ pass → slot_of i (judgement c') ≡ pass
 
 -- A ferry of 45 m at 900 t, which is a row of her table: light ship 690 t, vehicles 90 t, passengers 20 t, fuel and water 100 t. Her KG is 4,759.5 mm.
 abbrev pub ferry : List ℕ

@@ -1,4 +1,4 @@
--- The tree of entries by its leaves: sums over it, one leaf in another's place, and the same leaves with no groups around them.
+-- The tree of entries by its leaves: sums over it, and the same leaves with no groups around them.
 use Rattle.std.specs.Prelude.{◌≡◌, ℕ, ◌+◌}
 use Rattle.rules.specs.Blocks.{Load, Values}
 use Rattle.rules.specs.Layout.{Entries, end, leaf, group, Reading}
@@ -10,6 +10,14 @@ sum_leaves f end = 0
 sum_leaves f (leaf k v r) = f (record { kind = k; values = v }) + sum_leaves f r
 sum_leaves f (group g r) = sum_leaves f g + sum_leaves f r
 
+-- Two readings of one ship, table and weather whose leaves have the same sums: of masses, and of moments with free surface moments.
+pub record SameSums (r s : Reading) : Type 0 where
+  pub ship : r.ship ≡ s.ship
+  pub rows : r.rows ≡ s.rows
+  pub weather : r.condition.weather ≡ s.condition.weather
+  pub masses : sum_leaves mass r.condition.load ≡ sum_leaves mass s.condition.load
+  pub moments : sum_leaves moment r.condition.load + sum_leaves free_surface r.condition.load ≡ sum_leaves moment s.condition.load + sum_leaves free_surface s.condition.load
+
 -- The moments with free surface moments.
 abbrev pub moments_in : Entries → ℕ
 moments_in F = sum_leaves moment F + sum_leaves free_surface F
@@ -20,11 +28,6 @@ pub record SameMass (r s : Reading) : Type 0 where
   pub rows : r.rows ≡ s.rows
   pub weather : r.condition.weather ≡ s.condition.weather
   pub masses : sum_leaves mass r.condition.load ≡ sum_leaves mass s.condition.load
-
--- And with the same moments: their leaves have the same sums.
-pub record SameSums (r s : Reading) : Type 0 where
-  pub alike : SameMass r s
-  pub moments : moments_in r.condition.load ≡ moments_in s.condition.load
 
 -- `OneEntry e e' F G`: the load G is F with e' in the place of one of its entries, e. Nothing else differs.
 pub data OneEntry (e e' : Entry) : Entries → Entries → Type 0 where

@@ -59,7 +59,7 @@ free_surface e = free_surface_of e.kind e.values
 unfoldable pub displacement : List Entry → ℕ
 displacement es = total mass es
 
--- KG's unit is how many parts a millimetre has. 'Carry KG in tenths of a millimetre' (request 5): there are ten. Before that it was carried in whole millimetres. Every definition that the unit touches has it as an argument, or as a field of the ship that is judged.
+-- The unit of KG is how many parts of a millimetre it has. 'Carry KG in tenths of a millimetre' (request 5); before that it was carried in millimetres, and every definition that the unit touches has it as an argument, or as a field of the ship that is judged.
 abbrev pub millimetres : ℕ
 millimetres = 1
 

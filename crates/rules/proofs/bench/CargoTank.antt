@@ -9,8 +9,7 @@ use Rattle.rules.specs.Layout.{Entries, end, leaf, group, frames, spell_text}
 use Rattle.rules.specs.Outcome.{got}
 use Rattle.rules.specs.Walk.{read}
 use Rattle.rules.specs.Loading.{flat, total, displacement, corrected_kg, corrected_kg_in}
-use Rattle.rules.specs.Leaves.{here, after_entry, in_group}
-use Rattle.rules.specs.Cargo.{MadeCargo, RetaggedLines}
+use Rattle.rules.specs.Cargo.{MadeCargo, here, after_entry, in_group, RetaggedLines}
 use Rattle.rules.specs.Answer.{answered_in, report_of}
 use Rattle.rules.proofs.walk.WholeText.{sound}
 use Rattle.rules.proofs.layout.Retagged.{frames_retagged}

@@ -34,7 +34,7 @@ reads_as = (refl, refl)
 
 pub same_sums : SameSums as_one as_group
 unfolding sum_leaves
-same_sums = record { alike = record { ship = refl; rows = refl; weather = refl; masses = refl }; moments = refl }
+same_sums = record { ship = refl; rows = refl; weather = refl; masses = refl; moments = refl }
 
 pub two_texts : P1 ≢ regrouped
 two_texts e = omega (arith, ap length e)

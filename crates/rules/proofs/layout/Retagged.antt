@@ -7,9 +7,9 @@ use lib.ListN.{length}
 use Rattle.rules.specs.Numbers.{digits}
 use Rattle.rules.specs.Blocks.{spell_values, spell_block, block, ship, Row, row, Set, code, timber, Sky, Weather, weather, Tank, entry, group_tag}
 use Rattle.rules.specs.Layout.{Entries, Condition, spell, spell_condition, row_frames, Reading, frames}
-use Rattle.rules.specs.Leaves.{here, after_entry, after_group, in_group, loaded_with}
+use Rattle.rules.specs.Leaves.{loaded_with}
 use Rattle.rules.specs.Tags.{OtherTag, tag_here, after_block, inside_group, in_condition, after_line}
-use Rattle.rules.specs.Cargo.{MadeCargo, RetaggedLines}
+use Rattle.rules.specs.Cargo.{MadeCargo, here, after_entry, after_group, in_group, RetaggedLines}
 use Rattle.rules.specs.Timber.{TimberLines, condition_by, reading_by}
 use Rattle.rules.proofs.walk.Conditions.{weather_body}
 

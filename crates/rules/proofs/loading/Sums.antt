@@ -74,10 +74,9 @@ pub judged_by_sums : (r s : Reading) → SameSums r s → judged r ≡ judged s
 judged_by_sums r s S =
     let F = r.condition.load in
     let G = s.condition.load in
-    let A = S.alike in
-    judged_by r s A.ship A.rows A.weather
-    (displacement_leaves F ∙ A.masses ∙ sym (displacement_leaves G))
-    (corrected_kg_leaves tenths F ∙ ap₂ (λ (moments w : ℕ). ceil (tenths * moments) w) S.moments A.masses ∙ sym (corrected_kg_leaves tenths G))
+    judged_by r s S.ship S.rows S.weather
+    (displacement_leaves F ∙ S.masses ∙ sym (displacement_leaves G))
+    (corrected_kg_leaves tenths F ∙ ap₂ (λ (moments w : ℕ). ceil (tenths * moments) w) S.moments S.masses ∙ sym (corrected_kg_leaves tenths G))
 
 -- And loads of the same entries.
 pub judged_same : (r : Reading) (F G : Entries) → flat F ≡ flat G → judged (loaded_with r F) ≡ judged (loaded_with r G)

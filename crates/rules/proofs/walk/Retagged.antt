@@ -11,11 +11,11 @@ use Rattle.rules.specs.Blocks.{ok, Tank, TankKind, ordinary, cargo, tank_tag, ta
 use Rattle.rules.specs.Layout.{Entries, Condition, Reading, frames, spell_text, most_characters}
 use Rattle.rules.specs.Outcome.{refused, got, ◌>>=◌}
 use Rattle.rules.specs.Walk.{Head, fixed, tag_of, Block, one, begun, block_at, step, entries, chosen, inside, frame_of, read}
-use Rattle.rules.specs.Leaves.{here, after_entry, after_group, in_group, loaded_with}
-use Rattle.rules.specs.Cargo.{MadeCargo, RetaggedLines}
+use Rattle.rules.specs.Leaves.{loaded_with}
+use Rattle.rules.specs.Cargo.{MadeCargo, here, after_entry, after_group, in_group, RetaggedLines}
 use Rattle.rules.proofs.layout.Lines.{lines_sound}
 use Rattle.rules.proofs.layout.Retagged.{frames_retagged}
-use Rattle.rules.proofs.loading.OneEntry.{as_many}
+use Rattle.rules.proofs.loading.Cargo.{as_many}
 use Rattle.rules.proofs.walk.Alike.{Like, both_refused, both_got, like_bind, like_then, like_never, like_refused, like_got}
 use Rattle.rules.proofs.walk.FrameExits.{weather_tag_lem}
 use Rattle.rules.proofs.walk.Fuel.{entries_some}
