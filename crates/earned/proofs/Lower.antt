@@ -1,5 +1,5 @@
 -- 'A lower weight never loses a pass' (request 6): at one displacement, in one unit, a lower KG keeps every pass of criteria 1 to 7; a load of the same mass whose moments with free surface are no greater has such a KG; and a load with one entry moved down is such a load.
-use mathlib.Core.Path.{◌≡◌, refl, ap, ap₂, sym, ◌∙◌, subst}
+use mathlib.Core.Path.{◌≡◌, ap, ap₂, sym, ◌∙◌, subst}
 use mathlib.Core.Bool.{true}
 use mathlib.Core.List.{List}
 use Prim.Native.Nat.{ℕ, ◌+◌, ◌*◌, ◌≤◌, ◌<◌}

@@ -1,6 +1,6 @@
 -- Which roundings favour the ship: what is proved, to be read without the proofs. Each theorem has a sentence above it, and its proof stands elsewhere.
 -- Its words are defined in specs/: Order (hulls over a denominator), Verdicts (criteria 1 to 4, 6 and 7 over one), Exact (the values of a reading before they are rounded), Limits (metre-radians), Gust (criteria 7 and 8 at parts of a tenth), Rolling (the roll before it is rounded), Tenths (slots 1 to 7 in two units of KG, and two texts).
-use mathlib.Core.Path.{◌≡◌, refl, sym, ◌∙◌}
+use mathlib.Core.Path.{◌≡◌, sym, ◌∙◌}
 use mathlib.Core.Bool.{true, false}
 use mathlib.Core.List.{List, [], ◌∷◌}
 use Prim.Native.Nat.{ℕ, ◌+◌, ◌-◌, ◌*◌, ◌≤◌, ◌<◌}
@@ -25,7 +25,7 @@ use Rattle.rules.proofs.loading.Fair.{fair}
 use Rattle.rules.proofs.criteria.EitherSet.{verdicts_are, slot_pass, slot_passed}
 use Rattle.rules.proofs.criteria.Ranges.{judged, phi1_from}
 use Rattle.earned.specs.Order.{NoLess, Hull, finer, Better, curve, Follows}
-use Rattle.earned.specs.Verdicts.{Criterion, one, two, three, four, six, seven, passes_over, passes_fifth, passes, place, used, Behind}
+use Rattle.earned.specs.Verdicts.{Criterion, passes_over, passes_fifth, passes, place, used, Behind}
 use Rattle.earned.specs.Exact.{over, exact, Fractions}
 use Rattle.earned.specs.Limits.{PiFrom, PiTo, Covers}
 use Rattle.earned.specs.Example.{text, reading}

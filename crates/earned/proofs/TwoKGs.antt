@@ -1,5 +1,5 @@
 -- One ship, table, weather and displacement at two KGs, the second no greater: what follows for its curve and its GM, and so for criteria 1 to 7 over any set. The second KG may be in a unit n times as fine.
-use mathlib.Core.Path.{◌≡◌, refl, ap, sym, ◌∙◌, subst}
+use mathlib.Core.Path.{◌≡◌, ap, sym, ◌∙◌, subst}
 use mathlib.Core.Bool.{Bool, true}
 use mathlib.Core.List.{List}
 use Prim.Native.Nat.{ℕ, zero, suc, ◌*◌, ◌≤◌, ◌<◌}

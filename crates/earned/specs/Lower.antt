@@ -1,5 +1,5 @@
 -- One ship at two KGs, and 'a lower weight never loses a pass' (request 6): what follows from a KG that is no greater, which slots keep a pass, and which loads are such.
-use Rattle.std.specs.Prelude.{◌≡◌, List, ℕ, ◌≤◌, pos}
+use Rattle.std.specs.Prelude.{ℕ, ◌≤◌, pos}
 use Rattle.rules.specs.Rounding.{peak}
 use Rattle.rules.specs.Blocks.{Load, item, tank, Values}
 use Rattle.rules.specs.Layout.{Entries, Reading}
@@ -7,8 +7,6 @@ use Rattle.rules.specs.Loading.{Entry, centre_of}
 use Rattle.rules.specs.Leaves.{moments_in, SameMass, OneEntry}
 use Rattle.rules.specs.Curve.{Loaded, y}
 use Rattle.rules.specs.Criteria as criteria
-use Rattle.rules.specs.Columns.{slot_of}
-use Rattle.rules.specs.Report.{pass, judgement}
 use Rattle.earned.specs.Order.{NoLess, Follows}
 
 -- What follows for the second of two ships, n of its units against m of the first's. To 60 degrees, for there the curve ends at the latest.

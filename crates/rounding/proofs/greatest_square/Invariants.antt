@@ -1,9 +1,6 @@
 -- `rounding::greatest_square` meets its contract: each turn narrows the bracket of what is searched by half. Assumes nothing.
-use Prim.Native.Nat.{◌+◌, ◌-◌, ◌*◌, ◌/◌}
-use native.Mathlib.Omega.{arith}
-use native.Mathlib.Nat.{mul-le-mul}
-use borrow.Author.Tests.{le-leb}
-use Rattle.rounding.proofs.Halves.{Bracket, whole, raise, lower, found, square_fits, square_le, square_past}
+use Prim.Native.Nat.{◌-◌}
+use Rattle.rounding.proofs.Halves.{Bracket, square_fits}
 use Rattle.rounding.proofs.greatest_square.Given as goal
 
 abbrev pub invariant-loop-high : goal.invariant-loop-high

@@ -1,12 +1,9 @@
 -- `rounding::table_up` meets its contract: from the point at i on, the table is what it is from its first point on. Assumes nothing.
 use native.Mathlib.Omega.{arith}
-use mathlib.Core.Path.{◌≡◌, sym, ◌∙◌}
-use Prim.Native.Nat.{◌+◌, ◌-◌, ◌≤◌}
-use lib.ListN.{length, get_or}
-use Rattle.rules.specs.Rounding.{up, table}
-use Rattle.rounding.specs.Points.{points_of}
-use Rattle.rounding.proofs.TablePoints.{asked, from, from_first, from_last, from_between, from_past}
-use borrow.Author.Rules.{rules}
+use mathlib.Core.Path.{sym, ◌∙◌}
+use Prim.Native.Nat.{◌+◌}
+use Rattle.rules.specs.Rounding.{up}
+use Rattle.rounding.proofs.TablePoints.{asked, from_first, from_last, from_between, from_past}
 use Rattle.rounding.proofs.table_up.Goals as goal
 
 pub bounds-points-0 : goal.bounds-points-0

@@ -1,12 +1,10 @@
 -- `rounding::table_up` meets its contract: from the point at i on, the table is what it is from its first point on. Assumes nothing.
-use native.Mathlib.Omega.{arith}
-use mathlib.Core.Path.{◌≡◌, sym, ◌∙◌}
+use mathlib.Core.Path.{◌≡◌}
 use Prim.Native.Nat.{◌+◌, ◌-◌, ◌≤◌}
 use lib.ListN.{length, get_or}
 use Rattle.rules.specs.Rounding.{up, table}
 use Rattle.rounding.specs.Points.{points_of}
-use Rattle.rounding.proofs.TablePoints.{asked, from, from_first, from_last, from_between, from_past}
-use borrow.Author.Rules.{rules}
+use Rattle.rounding.proofs.TablePoints.{from}
 use Rattle.rounding.proofs.table_up.Given as goal
 
 abbrev pub invariant-loop-i : goal.invariant-loop-i
