@@ -3,6 +3,7 @@ use Rattle.rules.specs.Blocks.{ordinary, cargo, item, tank}
 use Rattle.rules.specs.Walk.{load, nested}
 use Rattle.rules.proofs.walk.Entries.{tag_of_got}
 use Rattle.blocks.proofs.Leaves.{tag_other}
+use native.Mathlib.Omega.{arith}
 use Rattle.blocks.proofs.entries.tag_of.Goals as goal
 
 pub returns-in-194 : goal.returns-in-194
@@ -18,4 +19,4 @@ pub returns-in-197 : goal.returns-in-197
 returns-in-197 c line at = rw c.in-197.is (tag_of_got line at (load (tank cargo)))
 
 pub returns-in_default : goal.returns-in_default
-returns-in_default c line at = let n = c.in_default.in_default-own.rest in tag_other line at _ n.0.0.0.1 n.0.0.1 n.0.1 n.1
+returns-in_default c line at = tag_other line at c.args.tag (omega arith) (omega arith) (omega arith) (omega arith)
