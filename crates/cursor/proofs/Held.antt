@@ -44,7 +44,7 @@ module _ (κ : Lft) where
   Slice s v = (ShrSlice (named 0) κ u8).own_val s (v ∷ [])
 
   abbrev pub Own : Reader → Val → Fml
-  Own d v = (B (κ, tt)).own d (v ∷ [])
+  Own d v = (B (κ, tt)).own_val d (v ∷ [])
 
 -- The machine value of a slice.
 abbrev pub value : Bor (List ℕ) → Val

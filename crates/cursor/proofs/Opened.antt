@@ -4,7 +4,7 @@ use mathlib.Core.Path.{refl}
 use Prim.Native.Nat.{ℕ, ◌<◌, ◌^◌}
 use mathlib.Core.List.{List, [], ◌∷◌}
 use seplogic.Ra.Ura.{Ura}
-use mir.Syntax.{named, w64}
+use mir.Syntax.{named, w8, w64}
 use mir.Val.{Val, vint}
 use base.Logic.{SProp, ent, sep, snd∗, ex_e}
 use base.Fml.{Lft, Share, ftrue, flft}
@@ -15,7 +15,7 @@ use contract.Monad.{Fun, fact}
 use types.Kit.{‵, raw, ◌⊛◌, ⋆, ◌$◌, ◌∵◌, !, qed, move, use1, use2, split, join, fjoin, frame, done}
 use denote.RattleType.{owns}
 use denote.Laws.{Is}
-use denote.Plain.{uint_Makes}
+use denote.Plain.{uint_Makes, uint_row_laws}
 use denote.Builtin.{u8, usize}
 use denote.Ref.{Bor}
 use denote.Slice.{ShrSlice, shr_slice_copy}
@@ -51,7 +51,7 @@ module _ {M : Type 1} {𝓤 : Ura M} (𝓛 : Logic 𝓤) (mem : Memory → SProp
     pub goes_new : l < 2 ^ 64 → n < 2 ^ 64 → ent 𝓤 (⋆ 𝓛 ((‵ (flft κ q) ⊛ ‵ ftrue) ∷ ‵ (Slice κ s (value s)) ∷ [])) (sep 𝓤 ((New 𝓛 mem run).pre to_new) (sem 𝓛 (Slice κ s (value s))))
     goes_new l-fits n-fits =
         qed 𝓛 ((‵ (flft κ q) ⊛ ‵ ftrue) ∷ ‵ (Slice κ s (value s)) ∷ []) ∵
-        move ! (1 ∷ []) $ use1 𝓛 (‵ (Slice κ s (value s)) ⊛ ‵ (Slice κ s (value s))) ((shr_slice_copy 𝓛 (named 0) κ u8).twice s (value s ∷ [])) $ split ! $
+        move ! (1 ∷ []) $ use1 𝓛 (‵ (Slice κ s (value s)) ⊛ ‵ (Slice κ s (value s))) ((shr_slice_copy 𝓛 (named 0) κ u8 (uint_row_laws w8)).twice s (value s ∷ [])) $ split ! $
         nothing ! $ owned ! usize (Is usize) (uint_Makes 𝓛 w64) n _ (refl, n-fits) $ fjoin ! $ owned ! usize (Is usize) (uint_Makes 𝓛 w64) l _ (refl, l-fits) $ fjoin ! $ move ! (1 ∷ 0 ∷ []) $ fjoin ! $
         move ! (2 ∷ 0 ∷ []) $ use2 𝓛 (raw ((New 𝓛 mem run).pre to_new)) (qed 𝓛 ((‵ (flft κ q) ⊛ ‵ ftrue) ∷ ‵ (owns (ShrSlice (named 0) κ u8 ∷ usize ∷ usize ∷ []) (s, (l, (n, tt))) passed) ∷ []) ∵ join ! $ frame ! $ done !) $ frame ! $ done !
 

@@ -20,6 +20,6 @@ Begins r h = h ≡ head_of (header r.line r.at r.src.now)
 -- The reader q over a part of the block of len bytes that begins where r stands: its bytes, and where they lie, in memory and in the line.
 pub record OverPart (r : Reader) (part : Part) (len : ℕ) (q : Reader) : Type 0 where
   pub bytes : q.src.now ≡ bytes_of part len r.src.now
-  pub place : q.src.ptr ≡ further r.src.ptr (starts part len)
+  pub place : q.src.ref_ptr ≡ further r.src.ref_ptr (starts part len)
   pub line : q.line ≡ r.line
   pub at : q.at ≡ r.at + starts part len

@@ -1,0 +1,19 @@
+-- `levers` meets its contract: value after value is stored, so that after i turns the first i are the row's.
+use mathlib.Core.Path.{◌≡◌, refl, ◌∙◌}
+use native.Mathlib.Omega.{arith}
+use lib.ListN.{length-set}
+use Rattle.blocks.proofs.Stations.{written, written_more, levers_row}
+use Rattle.blocks.proofs.row.levers.Goals as goal
+
+pub loop-i-init : goal.loop-i-init
+unfolding written
+loop-i-init c = (omega arith, refl, refl)
+
+pub loop-i-preserved : goal.loop-i-preserved
+loop-i-preserved c =
+    (omega arith, simp length-set c.loop-i.invariant.1, written_more _ _ _ _ _ c.loop-i.invariant.2 c.u16_at.ensures.0)
+
+pub returns : goal.returns
+returns c =
+    let e : c.loop-i.i ≡ 13 = omega arith in
+    rw e at c.loop-i.invariant.2 ∙ levers_row _ c.requires
