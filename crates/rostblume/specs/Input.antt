@@ -5,4 +5,4 @@ use Rattle.rostblume.specs.declared.Input.TheVariants as input
 
 abbrev pub Fits : Input → ℕ → Type 0
 Fits (input.Text n) room = n ≤ room
-Fits input.Failed room = Unit {0}
+Fits (input.Failed _) room = Unit {0}

@@ -4,7 +4,8 @@
 ghost use Rattle.std.specs.Prelude.{length};
 ghost use Rattle.rostblume.specs.Input.{Fits};
 
-use libc::{STDIN_FILENO, STDOUT_FILENO};
+use std::io;
+use std::io::{Eprint, Read, Write};
 
 // 'The program up to 60,000, answering 1 beyond.'
 const MOST_CHARACTERS: usize = 60_000;
@@ -14,48 +15,53 @@ pub enum Input {
     // That many characters stand at the front of the buffer.
     Text(usize),
     // A read failed.
-    Failed,
+    Failed(io::Error),
 }
 
 // Standard input up to its end, or as much of it as the buffer holds.
-fn read_input(buf: &mut [u8]) -> Input
+fn read_input<R: Read>(stdin: &mut R, buf: &mut [u8]) -> Input
     ensures { Fits result (length buf.new) }
 {
     let mut n = 0;
     while n < buf.len() {
-        let rest = &mut buf[n..];
-        let got = libc::read(STDIN_FILENO, rest);
-        if got < 0 {
-            return Input::Failed;
+        match stdin.read(&mut buf[n..]) {
+            Ok(0) => return Input::Text(n),
+            Ok(more) => n = n + more,
+            Err(e) => return Input::Failed(e),
         }
-        let more = io::count(got, rest);
-        if more == 0 {
-            return Input::Text(n);
-        }
-        n = n + more;
     }
     Input::Text(n)
 }
 
+// A line on standard error: what failed, and how. Where that fails too, nothing is left to do.
+fn fail<E: Eprint>(stderr: &E, what: &str, error: io::Error) {
+    let _ = eprintln!(stderr; "rostblume: {what}: {error}");
+}
+
 // What is printed is what was written: one report line for a text that is refused as a whole, else one for each condition, up to 24.
-fn print_reports(text: &[u8]) {
+fn print_reports<W: Write, E: Eprint>(stdout: &mut W, stderr: &E, text: &[u8]) {
     let mut report = [0u8; 5016];
     let reply = instrument::judge_within(text, MOST_CHARACTERS, &mut report);
     let written = reply.length;
-    if !io::write_all(STDOUT_FILENO, &report[..written]) {
-        os::fail(b"rostblume: standard output");
+    if let Err(e) = stdout.write_all(&report[..written]) {
+        fail(stderr, "standard output", e);
     }
 }
 
-fn judge_input(buf: &mut [u8]) {
-    let input = read_input(buf);
+fn judge_input<R: Read, W: Write, E: Eprint>(
+    stdin: &mut R,
+    stdout: &mut W,
+    stderr: &E,
+    buf: &mut [u8],
+) {
+    let input = read_input(stdin, buf);
     match input {
-        Input::Text(n) => print_reports(&buf[..n]),
-        Input::Failed => os::fail(b"rostblume: standard input"),
+        Input::Text(n) => print_reports(stdout, stderr, &buf[..n]),
+        Input::Failed(e) => fail(stderr, "standard input", e),
     }
 }
 
-fn main() {
+fn main(rt: HostRuntime) {
     let mut text = [0u8; 60001];
-    judge_input(&mut text);
+    judge_input(&mut rt.stdin(), &mut rt.stdout(), &rt.stderr(), &mut text);
 }

@@ -1,9 +1,11 @@
-// A stream of texts on standard input: for each text three times four bytes, the highest first, with its length, the limit of characters and
+// A stream of texts, as on standard input: for each text three times four bytes, the highest first, with its length, the limit of characters and
 // the bytes of room in the buffer; and then the text.
 #![tactic(auto)]
 
-ghost use Rattle.std.specs.Prelude.{length};
+ghost use Rattle.std.specs.Prelude.{◌≤◌, length};
 ghost use Rattle.stream.specs.Stream.{Fits};
+
+use std::io::Read;
 
 // A text of `len` bytes stands at the front of the buffer.
 #[derive(Clone, Copy)]
@@ -22,12 +24,37 @@ pub enum Next {
     Broken,
 }
 
-// The next text, into the front of a buffer.
-pub fn next_text(buf: &mut [u8]) -> Next
+// One read, which counts as an end where it fails.
+fn read_some<R: Read>(input: &mut R, buf: &mut [u8]) -> usize
+    ensures { result ≤ length buf.new }
+{
+    match input.read(buf) {
+        Ok(n) => n,
+        Err(_) => 0,
+    }
+}
+
+// Reads until the buffer is full, the input ends or a read fails: how many bytes it put at the front of the buffer.
+fn read_full<R: Read>(input: &mut R, buf: &mut [u8]) -> usize
+    ensures { result ≤ length buf.new }
+{
+    let mut done = 0;
+    while done < buf.len() {
+        let n = read_some(input, &mut buf[done..]);
+        if n == 0 {
+            break;
+        }
+        done += n;
+    }
+    done
+}
+
+// The next text, into the front of a buffer. A read that fails counts as the end of the stream.
+pub fn next_text<R: Read>(input: &mut R, buf: &mut [u8]) -> Next
     ensures { Fits result (length buf.new) }
 {
     let mut head = [0u8; 12];
-    let got = io::read_full(0, &mut head);
+    let got = read_full(input, &mut head);
     if got == 0 {
         return Next::End;
     }
@@ -38,7 +65,7 @@ pub fn next_text(buf: &mut [u8]) -> Next
     if buf.len() < len {
         return Next::Broken;
     }
-    let more = io::read_full(0, &mut buf[..len]);
+    let more = read_full(input, &mut buf[..len]);
     if more < len {
         return Next::Broken;
     }
