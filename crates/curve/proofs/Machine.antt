@@ -13,7 +13,7 @@ use Rattle.rules.proofs.rounding.Signed.{sub_is}
 use Rattle.curve.proofs.Sizes.{abs_difference, mag_abs}
 
 pub back : (z : ℤ) → mag z < 2 ^ 63 → to_z w64 (of_z w64 z) ≡ z
-back z h = to_z-of_z (record { sfits = h })
+back z h = to_z-of_z {w = w64} {z = z} (record { sfits = h })
 
 -- A test of order in the machine is the test of the numbers.
 module _ (a b : ℤ) (t : Bool) (h : mag a < 2 ^ 63) (k : mag b < 2 ^ 63) where

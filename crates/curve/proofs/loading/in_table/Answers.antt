@@ -1,0 +1,13 @@
+-- `curve::loading::in_table` meets its contract: the first and the last row are those of the rules. Assumes nothing.
+use borrow.Author.Tests.{le-leb, lt-leb}
+use Rattle.curve.specs.Interpolation.{row_at}
+use Rattle.curve.proofs.Rows.{in_table_at}
+use Rattle.curve.proofs.loading.in_table.Goals as goal
+
+pub returns-then-lowest-w : goal.returns-then-lowest-w
+returns-then-lowest-w c =
+    rw (in_table_at c.args.table c.args.w c.requires, le-leb (row_at c.args.table 0).mass c.args.w c.if-lowest-w.true)
+
+pub returns-else-lowest-w : goal.returns-else-lowest-w
+returns-else-lowest-w c =
+    rw (in_table_at c.args.table c.args.w c.requires, lt-leb (row_at c.args.table 0).mass c.args.w c.if-lowest-w.false)
