@@ -18,7 +18,6 @@ use Rattle.rules.proofs.walk.Outcome.{bind_inv, test_inv, bind_got, bind_refused
 use Rattle.rules.proofs.booklet.Counted.{only_a3, only_other, behind_a3, behind_row}
 use Rattle.book.specs.Book.{refusal, plain_ship, ship_of, plain_row, blank_row, table_of}
 use Rattle.book.specs.declared.Ship.{Ship}
-use Rattle.book.specs.declared.Row.{Row}
 use Rattle.book.specs.declared.Table.{Table}
 use Rattle.book.specs.declared.Refusal.{Refusal}
 use Rattle.blocks.specs.BlockAnswers.{ship_read, row_read}

@@ -1,0 +1,21 @@
+-- `moves` meets its contract: state by state.
+use Rattle.reading.specs.Moved.{moved}
+use Rattle.reading.proofs.moves.Goals as goal
+
+pub returns-in-Awaited : goal.returns-in-Awaited
+unfolding moved
+returns-in-Awaited c = λ l F.
+    rw (c.rowless.ensures, c.ship_line.ensures l F, c.in-Awaited.is)
+
+pub returns-in-Rows : goal.returns-in-Rows
+unfolding moved
+returns-in-Rows c = λ l F. rw (c.row_line.ensures l F, c.in-Rows.is)
+
+pub returns-in-Conditions : goal.returns-in-Conditions
+unfolding moved
+returns-in-Conditions c = λ l F.
+    rw (c.rowless-in-Conditions.ensures, c.condition_line.ensures l F, c.in-Conditions.is)
+
+pub returns-in-Refused : goal.returns-in-Refused
+unfolding moved
+returns-in-Refused c = λ l F. rw (c.rowless-in-Refused.ensures, c.in-Refused.is)
