@@ -10,6 +10,7 @@ use native.Mathlib.Omega.{arith}
 use lib.IntN.{pos, neg_ℤ}
 use lib.ListN.{length, drop, get_or, set, replicate}
 use denote.Ref.{Bor}
+use denote.MutBor.{MutBor}
 use Rattle.rules.specs.Rounding.{ceil}
 use Rattle.rules.specs.Numbers.{Bytes, digits, twos}
 use Rattle.rules.specs.Text.{hex, text, Lines}
@@ -80,11 +81,14 @@ Judges text before n after = (κs : _) × (a : _) × (s : _) × judge.Post κs a
 abbrev lent : List ℕ → Bor (List ℕ)
 lent s = record { ref_ptr = (0, 0); now = s }
 
+abbrev lent_out : List ℕ → MutBor (List ℕ)
+lent_out s = record { ref_ptr = (0, 0); ghost_name = 0; now = s }
+
 -- That is the two equations of the contract, no more and no less: the number is the rules' and so is the buffer at the end.
 pub contract : (text before : List ℕ) (n : ℕ) (after : List ℕ) → Judges text before n after ↔ ((n ≡ number most_characters text before) × (after ≡ written most_characters text before))
 contract text before n after = (
   λ run. rw (← run.4, ← run.5, ← run.6) run.3,
-  λ settled. (([], ([], tt)), (lent text, (lent before, tt)), (lent text, (lent after, tt)), settled, refl, refl, refl),
+  λ settled. (([], ([], tt)), (lent text, (lent_out before, tt)), (lent text, (lent_out after, tt)), settled, refl, refl, refl),
 )
 
 module _ (text before : List ℕ) (n : ℕ) (after : List ℕ) (run : Judges text before n after) where
@@ -513,7 +517,7 @@ pub within_contract : (text : List ℕ) (limit : ℕ) (before : List ℕ) (n byt
     → JudgesWithin text limit before n bytes after ↔ ((n ≡ number (limited limit) text before) × (bytes ≡ bytes_sent (limited limit) text before) × (after ≡ written (limited limit) text before))
 within_contract text limit before n bytes after = (
   λ run. let p = run.4 in rw (← run.5, ← run.6, ← run.7, ← run.8, ← run.9, ← run.10) (p.0, p.1.0, p.1.1),
-  λ x. (([], ([], tt)), (lent text, (limit, (lent before, tt))), record { number = n; length = bytes }, (lent text, (limit, (lent after, tt))), (x.0, (x.1, x.2)), refl, refl, refl, refl, refl, refl),
+  λ x. (([], ([], tt)), (lent text, (limit, (lent_out before, tt))), record { number = n; length = bytes }, (lent text, (limit, (lent_out after, tt))), (x.0, (x.1, x.2)), refl, refl, refl, refl, refl, refl),
 )
 
 module _ (text : List ℕ) (limit : ℕ) (before : List ℕ) (n bytes : ℕ) (after : List ℕ) (run : JudgesWithin text limit before n bytes after) where
