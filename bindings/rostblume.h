@@ -1,4 +1,4 @@
-/* The instrument for C. The archive is made by `rt staticlib instrument` (target/staticlib/libinstrument.a, for x86-64). */
+/* The instrument for C. The archive is made by `bindings/run` (target/staticlib/libinstrument.a, for x86-64), which copies what `rt lib` builds in crates/instrument_c. */
 #ifndef ROSTBLUME_H
 #define ROSTBLUME_H
 

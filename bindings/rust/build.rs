@@ -1,4 +1,4 @@
-//! Links the archive that `rt staticlib instrument` writes.
+//! Links the archive that `bindings/run` makes.
 
 fn main() {
     let root = concat!(env!("CARGO_MANIFEST_DIR"), "/../..");

@@ -1,4 +1,4 @@
-//! The proved stability instrument, for Rust. The archive is x86-64 code: `rt staticlib instrument` makes it.
+//! The proved stability instrument, for Rust. The archive is x86-64 code: `bindings/run` makes it (of crates/instrument_c).
 
 /// How many characters a report line has, and how many a text may have.
 pub const REPORT: usize = 209;
