@@ -94,6 +94,7 @@ fn pairs(digits: &[u8], text: &[u8]) -> usize
 }
 
 // How many stand there in all, where the first are looked at: as many as a buffer had room for, if there are so many.
+#[tactic(auto, using(crate::proofs::Decoded::first_all))]
 fn all_pairs(digits: &[u8], text: &[u8], first: usize, room: usize) -> usize
     requires { Digits digits.now × (first ≡ length (take room (decoded text.now))) }
     ensures { result ≡ length (decoded text.now) }
@@ -105,6 +106,7 @@ fn all_pairs(digits: &[u8], text: &[u8], first: usize, room: usize) -> usize
 }
 
 // What stands after n bytes: one LF, or these were no line.
+#[tactic(auto, using(crate::proofs::Ended::ended_end, crate::proofs::Ended::ended_open, crate::proofs::Ended::ended_empty, crate::proofs::Ended::ended_line, crate::proofs::Ended::ended_other))]
 fn ends(rest: &[u8], n: usize) -> LineRead
     ensures { result ≡ ended n rest.now }
 {

@@ -5,11 +5,8 @@ use native.Mathlib.Omega.{arith}
 use lib.ListN.{length}
 use Rattle.rules.proofs.layout.Parts.{part_end}
 use Rattle.text.specs.Line.{decoded}
-use Rattle.text.proofs.Decoded.{decoded_half, first_all, first_some, passed_rest}
+use Rattle.text.proofs.Decoded.{decoded_half, first_some, passed_rest}
 use Rattle.text.proofs.all_pairs.Goals as goal
-
-pub returns-then-first-room : goal.returns-then-first-room
-returns-then-first-room c = first_all c.args.text.now c.args.first c.args.room c.requires.1 c.if-first-room.true
 
 pub overflow_mul-first : goal.overflow_mul-first
 overflow_mul-first c = omega (arith, decoded_half c.args.text.now, first_some c.args.text.now c.args.first c.args.room c.requires.1)
