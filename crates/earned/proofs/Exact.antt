@@ -7,7 +7,7 @@ use native.Mathlib.Omega.{arith}
 use native.Mathlib.Nat.{mul-le-mul_right, mul-pos, max-eq_left, sub_self, mul-zero}
 use native.Mathlib.Decide.{dec_le}
 use lib.Dec.{leb, ltb}
-use lib.ListN.{get_or}
+use lib.ListN.{length, get_or}
 use borrow.Author.Tests.{leb-true, ltb-true, ltb-false, lt-ltb, le-ltb}
 use Rattle.rules.specs.Rounding.{down, line, onward, table, span}
 use Rattle.rules.specs.Blocks.{Row}
@@ -19,7 +19,7 @@ use Rattle.rules.specs.Criteria.{lw1}
 use Rattle.rules.proofs.layout.Fields.{both_true}
 use Rattle.rules.proofs.rounding.StraightLine.{line_rounded}
 use Rattle.rules.proofs.rounding.Divisions.{kg_up, lw1_up}
-use Rattle.rules.proofs.loading.Fair.{weighed_inv, floats}
+use Rattle.rules.proofs.loading.Fair.{weighed_inv}
 use Rattle.earned.specs.Verdicts.{Behind}
 use Rattle.earned.specs.Exact.{cell, gap_from, span_from, gap_at, span_at, weight, over, column, exact, Straight, Fractions}
 use Rattle.earned.proofs.Keeps.{get_or_finer}
@@ -136,17 +136,22 @@ in_unit R = omega arith
 
 -- ---- a reading that is judged: W is not below the first row, so it is above zero
 module _ (R : Reading) (limits : Limits R) (judged : weighed R ≡ got tt) where
-  above_first : first_mass R.rows ≤ weight R
+  floats : first_mass R.rows ≤ weight R
   unfolding in_table
-  above_first = leb-true (first_mass R.rows) (weight R) (both_true (leb (first_mass R.rows) (weight R)) (leb (weight R) (last_mass R.rows)) (weighed_inv tenths R judged).0).0
+  floats = leb-true (first_mass R.rows) (weight R) (both_true (leb (first_mass R.rows) (weight R)) (leb (weight R) (last_mass R.rows)) (weighed_inv tenths R judged).0).0
 
   pub some : 0 < weight R
-  some = floats R limits (weighed_inv tenths R judged).0
+  unfolding first_mass Rising
+  some = go R.rows limits.few limits.rising floats
+    where
+      go : (rows : List Row) → 2 ≤ length rows → Rising 0 rows → first_mass rows ≤ weight R → 0 < weight R
+      go [] l h k = absurd (omega arith)
+      go (r ∷ rows) l h k = omega (arith, h.1)
 
   -- ---- the denominator is one
   pub over_pos : 0 < over R
   unfolding over gap_at first_mass
-  over_pos = mul-pos (mul-pos some (go R.rows above_first)) (omega arith)
+  over_pos = mul-pos (mul-pos some (go R.rows floats)) (omega arith)
     where
       go : (rows : List Row) → first_mass rows ≤ weight R → 0 < gap_at rows (weight R)
       go [] h = omega arith
@@ -154,7 +159,7 @@ module _ (R : Reading) (limits : Limits R) (judged : weighed R ≡ got tt) where
 
   table_down : (f : Row → ℕ) → over R * between R.rows f (weight R) ≤ column f R
   unfolding between table gap_at span_at first_mass over column
-  table_down f = wide (between R.rows f (weight R)) (gap_at R.rows (weight R)) (span_at f R.rows (weight R)) (weight R) (go R.rows above_first)
+  table_down f = wide (between R.rows f (weight R)) (gap_at R.rows (weight R)) (span_at f R.rows (weight R)) (weight R) (go R.rows floats)
     where
       go : (rows : List Row) → first_mass rows ≤ weight R → between rows f (weight R) * gap_at rows (weight R) ≤ span_at f rows (weight R)
       go [] h = omega arith

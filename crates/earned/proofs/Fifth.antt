@@ -1,5 +1,5 @@
 -- Criterion 5: with KN as used, the first greatest lever lies no earlier where KG is no greater. So no pass of it is owed to the rounding of KG.
-use mathlib.Core.Path.{◌≡◌, ap, subst, ◌∙◌}
+use mathlib.Core.Path.{◌≡◌, ap, subst, fun_ext}
 use mathlib.Core.Bool.{Bool, true, false, ◌&&◌}
 use Prim.Native.Nat.{ℕ, zero, suc, ◌+◌, ◌-◌, ◌*◌, ◌/◌, ◌%◌, ◌≤◌, ◌<◌}
 use native.Mathlib.Omega.{arith}
@@ -19,7 +19,7 @@ use Rattle.rules.proofs.layout.Fields.{both_true, Limited, limited}
 use Rattle.rules.proofs.rounding.Searches.{Peak, peak_is}
 use Rattle.earned.specs.Order.{Hull, Better}
 use Rattle.earned.specs.Verdicts.{used, Behind, passes_fifth}
-use Rattle.earned.proofs.Keeps.{get_or_finer, curve_used}
+use Rattle.earned.proofs.Keeps.{get_or_finer, lever_used, curve_used}
 
 -- ---- the straight-line sine curve does not fall up to 60 degrees: by computing
 abbrev rises : (ℕ → ℕ) → ℕ → Bool
@@ -99,8 +99,15 @@ pub fifth_over_unit : (c : Loaded) → passes_fifth (set c) c.weather.sky (used 
 unfolding passes_fifth passes5 angle_of_greatest
 fifth_over_unit c = ap (λ (f : ℤ → ℤ). leb (set c).angle (peak (λ t. f (pos t)) 0 c.weather.sky.flooding)) (curve_used c)
 
+-- The angle of the greatest lever is that of the hull used.
+pub angle_used : (c : Loaded) → peak (lever millimetres (used c).kn c.kg) 0 c.weather.sky.flooding ≡ peak (lever c.unit c.kn c.kg) 0 c.weather.sky.flooding
+angle_used c = ap (λ (f : ℕ → ℤ). peak f 0 c.weather.sky.flooding) (fun_ext (lever_used c))
+
 pub fifth : (D : ℕ) → 0 < D → (h : Hull) (c : Loaded) → ok_weather c.weather ≡ true → Behind D h c → ((i : ℕ) → get_or h.kn i 0 ≡ D * get_or c.kn i 0) → passes5 c ≡ true → passes_fifth (set c) c.weather.sky h ≡ true
-fifth D some h c ok behind same p = fifth_keeps D c.unit (used c) h behind alike some (set c) c.weather.sky (flooding_to c.weather ok) (fifth_over_unit c ∙ p)
+unfolding passes5 angle_of_greatest passes_fifth lever_z
+fifth D some h c ok behind same p =
+    let e = c.weather.sky.flooding in
+    le-leb (set c).angle (peak (lever millimetres h.kn h.kg) 0 e) (omega (arith, leb-true (set c).angle (peak (lever c.unit c.kn c.kg) 0 e) p, angle_used c, angle_order D c.unit (used c) h behind alike some e (flooding_to c.weather ok)))
   where
     alike : (i : ℕ) → D * get_or (used c).kn i 0 ≡ c.unit * get_or h.kn i 0
     alike i = rw (get_or_finer c.unit c.kn i, same i) (turn (get_or c.kn i 0))

@@ -98,7 +98,7 @@ module _ (c : Loaded) where
       go : (a b m n : ℕ) → c.unit * a * m + c.unit * b * n ≡ c.unit * (a * m + b * n)
       go a b m n = omega arith
 
-  lever_used : (t : ℕ) → lever millimetres (used c).kn c.kg t ≡ lever c.unit c.kn c.kg t
+  pub lever_used : (t : ℕ) → lever millimetres (used c).kn c.kg t ≡ lever c.unit c.kn c.kg t
   unfolding lever
   lever_used t = ap (λ (a : ℕ). sub_ℕ a (c.kg * fifty sines t)) (ap (λ (a : ℕ). 100_000 * a) (fifty_used t) ∙ go (fifty c.kn t))
     where

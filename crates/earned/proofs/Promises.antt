@@ -1,6 +1,6 @@
 -- Which roundings favour the ship: what is proved, to be read without the proofs. Each theorem has a sentence above it, and its proof stands elsewhere.
 -- Its words are defined in specs/: Order (hulls over a denominator), Verdicts (criteria 1 to 4, 6 and 7 over one), Exact (the values of a reading before they are rounded), Limits (metre-radians), Gust (criteria 7 and 8 at parts of a tenth), Rolling (the roll before it is rounded), Tenths (slots 1 to 7 in two units of KG, and two texts).
-use mathlib.Core.Path.{◌≡◌, sym, ◌∙◌}
+use mathlib.Core.Path.{◌≡◌, refl, sym, ◌∙◌}
 use mathlib.Core.Bool.{true, false}
 use mathlib.Core.List.{List, [], ◌∷◌}
 use Prim.Native.Nat.{ℕ, ◌+◌, ◌-◌, ◌*◌, ◌≤◌, ◌<◌}
@@ -25,14 +25,13 @@ use Rattle.rules.proofs.loading.Fair.{fair}
 use Rattle.rules.proofs.criteria.EitherSet.{verdicts_are, slot_pass, slot_passed}
 use Rattle.rules.proofs.criteria.Ranges.{judged, phi1_from}
 use Rattle.earned.specs.Order.{NoLess, Hull, finer, Better, curve, Follows}
-use Rattle.earned.specs.Verdicts.{Criterion, passes_over, passes_fifth, passes, place, used, Behind}
+use Rattle.earned.specs.Verdicts.{Criterion, one, two, three, four, six, seven, passes_over, passes_fifth, passes, place, used, Behind}
 use Rattle.earned.specs.Exact.{over, exact, Fractions}
 use Rattle.earned.specs.Limits.{PiFrom, PiTo, Covers}
 use Rattle.earned.specs.Example.{text, reading}
 use Rattle.earned.specs.Gust.{y_by, units_by, phi0_by, PassesAt, start_by, e_by, net_by, gusts, Exactly, NowhereBelow}
 use Rattle.earned.specs.Rolling.{NoShorter, WithinRoll}
-use Rattle.earned.specs.Tenths.{ferry, stiffer}
-use Rattle.earned.specs.Tenths.{KeepsSeven}
+use Rattle.earned.specs.Tenths.{KeepsSeven, ferry, stiffer}
 use Rattle.earned.proofs.Order as orders
 use Rattle.earned.proofs.Keeps as keeping
 use Rattle.earned.proofs.Exact as exacts
@@ -59,7 +58,13 @@ order_is m n a b h = le_true (pos m *ℤ a) (pos n *ℤ b) (omega (arith, up_mul
 -- ---- criteria 1, 2, 3, 4, 6 and 7
 -- The verdicts below are those of the judgement.
 pub verdict_is : (k : Criterion) (c : Loaded) → slot_of (place k) (judgement c) ≡ slot (uses c (place k)) (verdict (passes k c))
-verdict_is = keeping.verdict_is
+unfolding judgement
+verdict_is one c = refl
+verdict_is two c = refl
+verdict_is three c = refl
+verdict_is four c = refl
+verdict_is six c = refl
+verdict_is seven c = refl
 
 -- And so a slot that reads pass is one that the set uses, and what it asks is met ..
 pub pass_is_asked : (k : Criterion) (c : Loaded) → slot_of (place k) (judgement c) ≡ pass → (uses c (place k) ≡ true) × (passes k c ≡ true)
