@@ -19,5 +19,6 @@ pub mod OfOne
 pub mod BenchSheet
 pub mod OneTag
 pub mod Apart
+pub mod Runs
 pub mod Promises
 pub mod OneAnswer

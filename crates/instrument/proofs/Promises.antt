@@ -9,8 +9,6 @@ use Prim.Native.Nat.{ℕ, ◌+◌, ◌*◌, max, ◌≤◌, ◌<◌}
 use native.Mathlib.Omega.{arith}
 use lib.IntN.{pos, neg_ℤ}
 use lib.ListN.{length, drop, get_or, set, replicate}
-use denote.Ref.{Bor}
-use denote.MutBor.{MutBor}
 use Rattle.rules.specs.Rounding.{ceil}
 use Rattle.rules.specs.Numbers.{Bytes, digits, twos}
 use Rattle.rules.specs.Text.{hex, text, Lines}
@@ -53,7 +51,8 @@ use Rattle.instrument.specs.Reported.{report_in, number_in, HasNumber, RefusedLi
 use Rattle.instrument.specs.Faults.{NoLineAt, WholeOverrunAt, MisplacedAt, OwedAt, SlipAt, LineOverrunAt}
 use Rattle.instrument.specs.Outside.{Outside, TooHigh, Neither}
 use Rattle.instrument.specs.OneTag.{OtherTagIn}
-use Rattle.instrument.proofs.judge.Reads as judge
+pub use Rattle.instrument.proofs.Runs.{Judges, contract}
+use Rattle.instrument.proofs.Runs.{lent, lent_out}
 use Rattle.instrument.proofs.judge_within.Reads as within
 use Rattle.instrument.proofs.room.Reads as asks
 use Rattle.instrument.proofs.Replies as replies
@@ -71,25 +70,6 @@ use Rattle.instrument.proofs.OfOne as ones
 use Rattle.instrument.proofs.BenchSheet.{P10, P11, P13, three}
 use Rattle.instrument.proofs.BenchSheet as sheet
 use Rattle.instrument.proofs.Within as limits
-
--- One run of `judge` as its contract admits it: lent `text` and the buffer `before`, it sends back `n` and leaves the buffer `after`.
--- (Post is what rattle makes of the contract itself; a: the arguments, s: the arguments at the end.)
-abbrev pub Judges : List ℕ → List ℕ → ℕ → List ℕ → Type 0
-Judges text before n after = (κs : _) × (a : _) × (s : _) × judge.Post κs a n s × (a.0.now ≡ text) × (a.1.0.now ≡ before) × (s.1.0.now ≡ after)
-
--- A slice that is lent, at some place in memory.
-abbrev lent : List ℕ → Bor (List ℕ)
-lent s = record { ref_ptr = (0, 0); now = s }
-
-abbrev lent_out : List ℕ → MutBor (List ℕ)
-lent_out s = record { ref_ptr = (0, 0); ghost_name = 0; now = s }
-
--- That is the two equations of the contract, no more and no less: the number is the rules' and so is the buffer at the end.
-pub contract : (text before : List ℕ) (n : ℕ) (after : List ℕ) → Judges text before n after ↔ ((n ≡ number most_characters text before) × (after ≡ written most_characters text before))
-contract text before n after = (
-  λ run. rw (← run.4, ← run.5, ← run.6) run.3,
-  λ settled. (([], ([], tt)), (lent text, (lent_out before, tt)), (lent text, (lent_out after, tt)), settled, refl, refl, refl),
-)
 
 module _ (text before : List ℕ) (n : ℕ) (after : List ℕ) (run : Judges text before n after) where
   settled : (n ≡ number most_characters text before) × (after ≡ written most_characters text before)
