@@ -16,7 +16,8 @@ use Rattle.rules.proofs.rounding.Rounding.{ceiling_least}
 use Rattle.rules.proofs.rounding.Divisions.{kg_up}
 use Rattle.rules.proofs.layout.Counts.{kg_600000}
 use Rattle.rules.proofs.loading.Sums.{total_leaves, displacement_leaves}
-use Rattle.rules.proofs.loading.Fair.{weighed_inv, floats}
+use Rattle.rules.proofs.loading.Fair.{weighed_inv}
+use Rattle.rules.proofs.answer.EitherUnit.{floats}
 use Rattle.earned.specs.Verdicts.{Criterion, passes_over, passes_fifth, used}
 use Rattle.earned.specs.Tenths.{KeepsSeven}
 use Rattle.earned.specs.Lower.{NoWorse, NoHigher}

@@ -25,8 +25,12 @@ use Rattle.rules.proofs.rounding.Rounding.{Ceiling, ceil_is, ceiling_least}
 use Rattle.rules.proofs.rounding.Times.{leb_times}
 use Rattle.rules.proofs.walk.Outcome.{bind_got, bind_refused, refused_got}
 use Rattle.rules.proofs.walk.WholeText.{sound}
-use Rattle.rules.proofs.loading.Fair.{weighed_inv, floats}
+use Rattle.rules.proofs.loading.Fair.{mass_within, some_rows, weighed_inv}
 use Rattle.rules.proofs.answer.Steps.{judged_steps}
+
+-- A reading that is not refused with 7 has a mass.
+pub floats : (r : Reading) → Limits r → in_table r.rows (displacement (entries_of r)) ≡ true → 0 < displacement (entries_of r)
+floats r limits e = omega (arith, (mass_within 0 r.rows limits.rising (some_rows r.rows limits.few) (displacement (entries_of r)) e).0)
 
 -- A number is at most a whole one exactly when it is so rounded up.
 ceil_leb : (a d k : ℕ) → 0 < d → leb (ceil a d) k ≡ leb a (k * d)

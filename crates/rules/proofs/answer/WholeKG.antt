@@ -16,10 +16,10 @@ use Rattle.rules.proofs.rounding.Rounding.{Ceiling, ceiling_unique}
 use Rattle.rules.proofs.rounding.Divisions.{kg_up}
 use Rattle.rules.proofs.walk.Outcome.{bind_got}
 use Rattle.rules.proofs.walk.WholeText.{sound}
-use Rattle.rules.proofs.loading.Fair.{floats, weighed_inv}
+use Rattle.rules.proofs.loading.Fair.{weighed_inv}
 use Rattle.rules.proofs.criteria.FinerUnit.{judgement_finer}
 use Rattle.rules.proofs.answer.Steps.{judged_steps}
-use Rattle.rules.proofs.answer.EitherUnit.{weighed_alike}
+use Rattle.rules.proofs.answer.EitherUnit.{floats, weighed_alike}
 
 -- A quotient n times as great that is rounded to n j is one that is rounded to j.
 whole : (n a d j : ℕ) → 0 < n → Ceiling (n * a) d (n * j) → Ceiling a d j

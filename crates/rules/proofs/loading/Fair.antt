@@ -2,7 +2,7 @@
 use mathlib.Core.Path.{◌≡◌, refl, ap}
 use mathlib.Core.Bool.{Bool, true, false, ◌&&◌}
 use mathlib.Core.List.{List, [], ◌∷◌, map}
-use Prim.Native.Nat.{ℕ, suc, ◌*◌, ◌≤◌, ◌<◌}
+use Prim.Native.Nat.{ℕ, suc, ◌*◌, ◌≤◌}
 use native.Mathlib.Omega.{arith}
 use lib.Dec.{leb}
 use lib.ListN.{get_or, length}
@@ -65,7 +65,7 @@ last_to m [] h = omega arith
 last_to m (r ∷ []) h = (row_at_lem r h.0 0).1
 last_to m (r ∷ s ∷ rows) h = last_to r.mass (s ∷ rows) h.2
 
-mass_within : (m : ℕ) (rows : List Row) → Rising m rows → full rows ≡ true → (w : ℕ) → in_table rows w ≡ true → Inside (row_field 0) w
+pub mass_within : (m : ℕ) (rows : List Row) → Rising m rows → full rows ≡ true → (w : ℕ) → in_table rows w ≡ true → Inside (row_field 0) w
 unfolding in_table
 mass_within m rows h s w e =
     let a = both_true (leb (first_mass rows) w) (leb w (last_mass rows)) e in
@@ -102,13 +102,9 @@ weighed_inv unit r h =
     let a = test_inv (in_table r.rows (displacement (entries_of r))) 7 0 0 (test (leb kg (unit * greatest_kg)) 8 0 0) h in
     (a.0, leb-true kg (unit * greatest_kg) (passed (leb kg (unit * greatest_kg)) a.1))
 
-some_rows : (rows : List Row) → 2 ≤ length rows → full rows ≡ true
+pub some_rows : (rows : List Row) → 2 ≤ length rows → full rows ≡ true
 some_rows [] h = absurd (omega arith)
 some_rows (r ∷ rows) h = refl
-
--- A reading that is not refused with 7 has a mass.
-pub floats : (r : Reading) → Limits r → in_table r.rows (displacement (entries_of r)) ≡ true → 0 < displacement (entries_of r)
-floats r limits e = omega (arith, (mass_within 0 r.rows limits.rising (some_rows r.rows limits.few) (displacement (entries_of r)) e).0)
 
 pub fair : (r : Reading) → Limits r → weighed r ≡ got tt → Fair (loaded r)
 unfolding loaded_in
