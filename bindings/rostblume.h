@@ -18,7 +18,7 @@ extern "C" {
    10 (a row of the KN table with a typing slip), or the first number among its conditions that is not 0, 2 to 8. One report line of
    209 characters is written for each condition, in order, or a single one for a text that is refused as a whole; bytes beyond keep
    their values, and a report holds no byte 0, so that in a buffer of zeros the first 0 ends what was written. With 9 nothing is
-   written. The caller answers for two slices that can be read and written for their lengths and do not overlap, and for 32 KiB of
+   written. The caller answers for two slices that can be read and written for their lengths and do not overlap, and for 64 KiB of
    stack (docs/TRUST.md). */
 uint8_t rostblume_judge(const uint8_t *text, size_t text_length, uint8_t *report, size_t report_length);
 

@@ -19,7 +19,7 @@ extern "C" {
 /// 10 (a row of the KN table with a typing slip), or the first number among its conditions that is not 0, 2 to 8. One report line of
 /// 209 characters is written for each condition, in order, or a single one for a text that is refused as a whole; bytes beyond keep
 /// their values, and a report holds no byte 0. With 9 nothing is written.
-/// The caller's thread has 32 KiB of stack to spare: no contract bounds it, and what was measured stands in docs/TRUST.md.
+/// The caller's thread has 64 KiB of stack to spare: no contract bounds it, and what was measured stands in docs/TRUST.md.
 pub fn judge(text: &[u8], report: &mut [u8]) -> u8 {
     // SAFETY: the contract asks for two slices, and these are slices that cannot overlap.
     unsafe { rostblume_judge(text.as_ptr(), text.len(), report.as_mut_ptr(), report.len()) }
