@@ -1,6 +1,7 @@
-pub mod Heads
-pub mod Limits
 pub mod Values
+pub mod Answered
+pub mod Limits
 pub mod Leaves
+pub mod Heads
 pub mod Stations
 pub mod OneAnswer

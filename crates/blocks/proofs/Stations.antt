@@ -1,80 +1,97 @@
--- The thirteen KN values of a row: read one by one, and tested one by one.
-use mathlib.Core.Path.{◌≡◌, refl, ap, ap₂, sym, ◌∙◌}
+-- The thirteen KN values of a row: read, and tested one by one.
+use mathlib.Core.Path.{◌≡◌, refl, ap, sym, ◌∙◌}
 use mathlib.Core.Bool.{Bool, true, false, ◌&&◌}
 use mathlib.Core.List.{List, [], ◌∷◌}
-use Prim.Native.Nat.{ℕ, zero, suc, ◌+◌, ◌-◌, ◌*◌, ◌≤◌, ◌<◌}
+use Prim.Native.Nat.{ℕ, zero, suc, ◌+◌, ◌*◌, ◌≤◌}
 use native.Mathlib.Omega.{arith}
 use native.Mathlib.Numerals.{add-one}
-use lib.ListN.{length, get_or, set, replicate, drop, drop_of_length-le}
-use lib.Seq.{drop-cons}
-use borrow.Author.Tests.{le-leb, lt-leb}
+use lib.ListN.{length, get_or, set, replicate, take, drop}
+use lib.Dec.{leb, eqb}
+use borrow.Author.Tests.{le-leb, lt-leb, ne_eqb}
+use Rattle.std.specs.Prelude.{Option, Some, None}
+use Rattle.std.specs.Borrow.{Bor}
+use Rattle.std.specs.List.{list_all, IsSubsliceAt}
+use Rattle.std.specs.Bool.{MatchBool}
+use Rattle.std.specs.Option.{IfSome, IsSomeAnd, option_map}
+use Rattle.std.specs.Iterator.Runs.{Run, IsWindowsRun, AllItems, AnyItem}
+use Rattle.rules.specs.Numbers.{num}
 use Rattle.rules.specs.Blocks.{Field, field, within, values, row, unbent, smooth}
-use Rattle.rules.specs.Parts.{be2, values_at}
-use Rattle.rules.proofs.layout.Parts.{num_two, values_at_lem}
-use Rattle.blocks.proofs.Limits.{fit}
+use Rattle.rules.specs.Parts.{values_at}
+use Rattle.rules.proofs.layout.Parts.{values_at_lem}
 
 abbrev lever : Field
 lever = field 2 0 30_000
 
--- Those from i on are within their limits.
-abbrev pub levers_left : List ℕ → ℕ → Bool
-levers_left kn i = within (replicate (13 - i) lever) (drop i kn)
+same_limits : (n : ℕ) (xs : List ℕ) → length xs ≡ n → within (replicate n lever) xs ≡ list_all (λ x. leb x 30_000) xs
+unfolding within
+same_limits zero [] h = refl
+same_limits zero (x ∷ xs) h = absurd (omega arith)
+same_limits (suc n) [] h = absurd (omega arith)
+same_limits (suc n) (x ∷ xs) h = rw (le-leb 0 x (omega arith), same_limits n xs (omega arith))
 
-module _ (kn : List ℕ) (h : length kn ≡ 13) where
-  levers_first : within (field 2 0 0 ∷ replicate 12 lever) kn ≡ (fit (get_or kn 0 0) 0 0 && levers_left kn 1)
-  unfolding within
-  levers_first = ap (within (field 2 0 0 ∷ replicate 12 lever)) (drop-cons kn 0 0 (omega arith))
+-- The first is 0, and so within the limits of the others.
+pub levers_within : (kn : List ℕ) → length kn ≡ 13 → within (field 2 0 0 ∷ replicate 12 lever) kn ≡ (eqb (get_or kn 0 0) 0 && list_all (λ x. leb x 30_000) kn)
+unfolding within
+levers_within [] h = absurd (omega arith)
+levers_within (zero ∷ xs) h = same_limits 12 xs (omega arith)
+levers_within (suc x ∷ xs) h = rw (le-leb 0 (suc x) (omega arith), lt-leb (suc x) 0 (omega arith), ne_eqb (suc x) 0 (λ e. omega arith))
 
-  pub levers_zero : get_or kn 0 0 ≡ 0 → within (field 2 0 0 ∷ replicate 12 lever) kn ≡ levers_left kn 1
-  levers_zero e = levers_first ∙ rw e
+-- Three values side by side, from place k on, of which the middle one is not bent.
+abbrev pub straight : List ℕ → ℕ → Bool
+straight kn k = unbent (get_or kn k 0) (get_or kn (suc k) 0) (get_or kn (suc (suc k)) 0)
 
-  pub levers_not_zero : (get_or kn 0 0 ≡ 0 → ⊥) → within (field 2 0 0 ∷ replicate 12 lever) kn ≡ false
-  levers_not_zero n = levers_first ∙ rw (le-leb 0 (get_or kn 0 0) (omega arith), lt-leb (get_or kn 0 0) 0 (omega arith))
+and_false : (b : Bool) → (b && false) ≡ false
+and_false true = refl
+and_false false = refl
 
-  module _ (i : ℕ) (l : i < 13) where
-    levers_one : levers_left kn i ≡ (fit (get_or kn i 0) 0 30_000 && levers_left kn (i + 1))
-    unfolding within
-    levers_one = let k : 13 - i ≡ suc (13 - (i + 1)) = omega arith in rw (k, drop-cons kn i 0 (omega arith), add-one)
+smooth_all : (kn : List ℕ) → ((k : ℕ) → k + 3 ≤ length kn → straight kn k ≡ true) → smooth kn ≡ true
+unfolding smooth
+smooth_all [] h = refl
+smooth_all (a ∷ []) h = refl
+smooth_all (a ∷ x ∷ []) h = refl
+smooth_all (a ∷ x ∷ b ∷ s) h = rw (h 0 (omega arith), smooth_all (x ∷ b ∷ s) (λ k l. h (suc k) (omega arith)))
 
-    pub levers_next : get_or kn i 0 ≤ 30_000 → levers_left kn i ≡ levers_left kn (i + 1)
-    levers_next b = levers_one ∙ rw (le-leb 0 (get_or kn i 0) (omega arith), le-leb (get_or kn i 0) 30_000 b)
+smooth_any : (kn : List ℕ) (k : ℕ) → k + 3 ≤ length kn → straight kn k ≡ false → smooth kn ≡ false
+unfolding smooth
+smooth_any [] k l e = absurd (omega arith)
+smooth_any (a ∷ []) k l e = absurd (omega arith)
+smooth_any (a ∷ x ∷ []) k l e = absurd (omega arith)
+smooth_any (a ∷ x ∷ b ∷ s) zero l e = rw e
+smooth_any (a ∷ x ∷ b ∷ s) (suc k) l e = rw (smooth_any (x ∷ b ∷ s) k (omega arith) e) (and_false (unbent a x b))
 
-    pub levers_stop : 30_000 < get_or kn i 0 → levers_left kn i ≡ false
-    levers_stop b = levers_one ∙ rw (le-leb 0 (get_or kn i 0) (omega arith), lt-leb (get_or kn i 0) 30_000 b)
+-- Of a window the three values are those of the row at its place.
+at_window : (kn w : List ℕ) (k : ℕ) → IsSubsliceAt 3 kn k w → unbent (get_or w 0 0) (get_or w 1 0) (get_or w 2 0) ≡ straight kn k
+at_window kn w k h =
+    let p : k + 0 ≡ k = omega arith in
+    let q : k + 1 ≡ suc k = omega arith in
+    let r : k + 2 ≡ suc (suc k) = omega arith in
+    let a : get_or w 0 0 ≡ get_or kn k 0 = h.2 0 0 (omega arith) ∙ ap (λ i. get_or kn i 0) p in
+    let x : get_or w 1 0 ≡ get_or kn (suc k) 0 = h.2 1 0 (omega arith) ∙ ap (λ i. get_or kn i 0) q in
+    let b : get_or w 2 0 ≡ get_or kn (suc (suc k)) 0 = h.2 2 0 (omega arith) ∙ ap (λ i. get_or kn i 0) r in
+    λ i. unbent (a i) (x i) (b i)
 
-  pub levers_done : levers_left kn 13 ≡ true
-  unfolding within
-  levers_done = rw (drop_of_length-le kn {i = 13} (omega arith))
+-- What is said of the window at a place, if there is one.
+abbrev At : List ℕ → ℕ → Option (Bor (List ℕ)) → Type 0
+At kn k o = IfSome o (λ x. (length x.now ≡ 3) × (k + 3 ≤ length kn) × IsSubsliceAt 3 kn k x.now)
 
--- Those from the one before i on are smooth.
-abbrev pub smooth_left : List ℕ → ℕ → Bool
-smooth_left kn i = smooth (drop (i - 1) kn)
+-- Whether the window's three values are straight.
+abbrev pub Bends : (Bor (List ℕ) → Type 0) → Bool → Type 0
+Bends C b = (x : Bor (List ℕ)) → C x → unbent (get_or x.now 0 0) (get_or x.now 1 0) (get_or x.now 2 0) ≡ b
 
-module _ (kn : List ℕ) (h : length kn ≡ 13) where
-  module _ (i : ℕ) (a : 1 ≤ i) (l : i < 12) where
-    two : drop i kn ≡ get_or kn i 0 ∷ get_or kn (i + 1) 0 ∷ drop (i + 2) kn
-    two =
-        let q : suc i ≡ i + 1 = omega arith in
-        let r : suc (i + 1) ≡ i + 2 = omega arith in
-        drop-cons kn i 0 (omega arith) ∙ ap (get_or kn i 0 ∷◌) (ap (λ j. drop j kn) q ∙ drop-cons kn (i + 1) 0 (omega arith) ∙ ap (λ j. get_or kn (i + 1) 0 ∷ drop j kn) r)
+module _ (kn : List ℕ) (k : ℕ) {C : Bor (List ℕ) → Type 0} where
+  all_at : (o : Option (Bor (List ℕ))) → Bends C true → option_map (λ x. get_or x.now 0 0) o ≡ Some (get_or kn k 0) → At kn k o → IfSome o C → straight kn k ≡ true
+  all_at None h e a b = absurd (let z : ◌≡◌ {A = ℕ} 0 1 = cc in omega arith)
+  all_at (Some x) h e a b = sym (at_window kn x.now k a.2) ∙ h x b
 
-    three : drop (i - 1) kn ≡ get_or kn (i - 1) 0 ∷ get_or kn i 0 ∷ get_or kn (i + 1) 0 ∷ drop (i + 2) kn
-    three = let p : suc (i - 1) ≡ i = omega arith in drop-cons kn (i - 1) 0 (omega arith) ∙ ap (get_or kn (i - 1) 0 ∷◌) (ap (λ j. drop j kn) p ∙ two)
+  any_at : (o : Option (Bor (List ℕ))) → Bends C false → At kn k o → IsSomeAnd o C → smooth kn ≡ false
+  any_at None h a b = absurd b
+  any_at (Some x) h a b = smooth_any kn k a.1 (sym (at_window kn x.now k a.2) ∙ h x b)
 
-    smooth_one : smooth_left kn i ≡ (unbent (get_or kn (i - 1) 0) (get_or kn i 0) (get_or kn (i + 1) 0) && smooth_left kn (i + 1))
-    unfolding smooth
-    smooth_one = let p : i + 1 - 1 ≡ i = omega arith in ap smooth three ∙ ap (unbent (get_or kn (i - 1) 0) (get_or kn i 0) (get_or kn (i + 1) 0) &&◌) (ap smooth (sym (ap (λ j. drop j kn) p ∙ two)))
-
-    pub smooth_next : unbent (get_or kn (i - 1) 0) (get_or kn i 0) (get_or kn (i + 1) 0) ≡ true → smooth_left kn i ≡ smooth_left kn (i + 1)
-    smooth_next e = smooth_one ∙ rw e
-
-    pub smooth_stop : unbent (get_or kn (i - 1) 0) (get_or kn i 0) (get_or kn (i + 1) 0) ≡ false → smooth_left kn i ≡ false
-    smooth_stop e = smooth_one ∙ rw e
-
-  -- The last two, of which neither is an inner value any more.
-  pub smooth_done : smooth_left kn 12 ≡ true
-  unfolding smooth
-  smooth_done = ap smooth (drop-cons kn 11 0 (omega arith) ∙ ap (get_or kn 11 0 ∷◌) (drop-cons kn 12 0 (omega arith) ∙ ap (get_or kn 12 0 ∷◌) (drop_of_length-le kn {i = 13} (omega arith))))
+-- A run over the windows of three says it: each is straight, to the last, or some one is not.
+module _ {S : Type 0} {steps : S → Option (Bor (List ℕ)) → S → Type 0} (p : Run steps) (kn : List ℕ) (w : IsWindowsRun p 3 kn) where
+  pub windows_said : {K : Type 0} {C D : Bor (List ℕ) → Type 0} (r : Bool) → MatchBool r ((p.whole ≡ true) × (K → AllItems p C)) (K → AnyItem p D) → K → Bends C true → Bends D false → r ≡ smooth kn
+  windows_said true m k h g = sym (smooth_all kn (λ i l. all_at kn i (p.at i) h (w.3 i 0 (omega (arith, w.1 m.0))) (w.2 i) (m.1 k i)))
+  windows_said false m k h g = let a = m k in sym (any_at kn a.0 (p.at a.0) g (w.2 a.0) a.2)
 
 -- f 0, .., f (n - 1) at the front of a list.
 unfoldable pub written : (ℕ → ℕ) → ℕ → List ℕ → List ℕ
@@ -85,16 +102,6 @@ pub written_more : (f : ℕ → ℕ) (n : ℕ) (out₀ out : List ℕ) (v : ℕ)
 unfolding written
 written_more f n out₀ out v p q = rw (add-one, p, q)
 
--- n values of two bytes from place a on.
-twos : ℕ → ℕ → List ℕ → List ℕ
-twos zero a s = []
-twos (suc n) a s = be2 s a ∷ twos n (a + 2) s
-
-levers_twos : (n a : ℕ) (s : List ℕ) → a + 2 * n ≤ length s → values_at (replicate n lever) a s ≡ twos n a s
-unfolding values_at twos
-levers_twos zero a s h = refl
-levers_twos (suc n) a s h = rw (num_two s a (omega arith), levers_twos n (a + 2) s (omega arith))
-
-pub levers_row : (s : List ℕ) → length s ≡ 34 → written (λ j. be2 s (8 + 2 * j)) 13 (replicate 13 0) ≡ (row.named (values row.fields s)).kn
-unfolding written values_at twos
-levers_row s h = sym (rw (values_at_lem row.fields 0 s) (ap₂ ◌∷◌ (num_two s 8 (omega arith)) (levers_twos 12 10 s (omega arith))))
+pub levers_row : (s : List ℕ) → written (λ j. num (take 2 (drop (8 + 2 * j) s))) 13 (replicate 13 0) ≡ (row.named (values row.fields s)).kn
+unfolding written values_at
+levers_row s = sym (rw (values_at_lem row.fields 0 s))

@@ -3,44 +3,34 @@
 #![tactic(auto)]
 
 pub mod entries;
+pub mod frame;
 pub mod row;
 pub mod ship;
 pub mod weather;
 
 ghost use Rattle.std.specs.Prelude.{◌≡◌};
 ghost use Rattle.rules.specs.Walk.{header};
-ghost use Rattle.book.specs.Book.{refusal};
 ghost use Rattle.blocks.specs.BlockAnswers.{begun_of};
 
-use numbers::u16_at;
+use numbers::number_at;
 
-// The tag and the length of the body, which lies inside the parent; or 2.
+// The tag, and the length of the body, which lies inside the parent.
 #[derive(Clone, Copy)]
-pub enum Begun {
-    Block { tag: u8, len: usize },
-    Short,
+pub struct Head {
+    pub tag: u8,
+    pub len: usize,
 }
 
-pub fn refusal(number: u8, line: usize, offset: usize) -> book::Refusal
-    ensures { result ≡ refusal number line offset }
-{
-    book::Refusal {
-        number,
-        line,
-        offset,
-    }
-}
-
-// 2: 'one or two bytes left where a block would begin, or a block's length runs past its parent'. `s` is what is left of the parent.
-pub fn header(s: &[u8]) -> Begun
+// None is 2: 'one or two bytes left where a block would begin, or a block's length runs past its parent'. `s` is what is left of the parent.
+pub fn header(s: &[u8]) -> Option<Head>
     ensures { result ≡ begun_of (header 0 0 s.now) }
 {
     if s.len() < 3 {
-        return Begun::Short;
+        return None;
     }
-    let len = u16_at(s, 1) as usize;
+    let len = number_at::<2>(s, 1) as usize;
     if s.len() - 3 < len {
-        return Begun::Short;
+        return None;
     }
-    Begun::Block { tag: s[0], len }
+    Some(Head { tag: s[0], len })
 }

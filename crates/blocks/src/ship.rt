@@ -1,69 +1,45 @@
 // A1: the ship.
-ghost use Rattle.std.specs.Prelude.{◌≡◌, ◌+◌, ◌≤◌, length};
-ghost use Rattle.rules.specs.Blocks.{values, ok, ship};
+ghost use Rattle.std.specs.Prelude.{◌≡◌, length};
+ghost use Rattle.rules.specs.Blocks.{values, ship};
 ghost use Rattle.rules.specs.Walk.{fixed_in};
 ghost use Rattle.rules.specs.Parts.{head_at};
-ghost use Rattle.book.specs.Book.{ship_of};
-ghost use Rattle.blocks.specs.BlockAnswers.{ship_read, ship_fault};
+ghost use Rattle.book.specs.Book.{answered, plain_ship};
+ghost use Rattle.blocks.specs.BlockAnswers.{within_limits};
 
-use crate::refusal;
-use numbers::{both, fits, u32_at, wide};
+use crate::frame::Frame;
+use book::{Bilge, Fault, Refusal, Ship};
+use numbers::{fits, number_at};
 
-#[derive(Clone, Copy)]
-pub enum ShipRead {
-    Within(book::Ship),
-    Refused(book::Refusal),
-}
-
-impl ShipRead {
-    // The refusal, or none.
-    pub fn fault(self) -> book::Refusal
-        ensures { result ≡ ship_fault self }
-    {
-        match self {
-            ShipRead::Within(_) => book::NO_REFUSAL,
-            ShipRead::Refused(r) => r,
-        }
-    }
-}
-
-fn read_ship(body: &[u8]) -> book::Ship
+// The ship, where each of its values is within its limits.
+fn read_ship(body: &[u8]) -> Result<Ship, Fault>
     requires { length body.now ≡ 13 }
-    ensures { ship_of result ≡ ship.named (values ship.fields body.now) }
+    ensures { result ≡ within_limits ship plain_ship (ship.named (values ship.fields body.now)) }
 {
-    book::Ship {
-        length: u32_at(body, 0),
-        breadth: u32_at(body, 4),
-        keel: u32_at(body, 8),
-        bilge: wide(body[12]),
+    let length = number_at::<4>(body, 0);
+    let breadth = number_at::<4>(body, 4);
+    let keel = number_at::<4>(body, 8);
+    let bilge = Bilge::try_from(body[12])?;
+    if fits(length, 24_000, 400_000) && fits(breadth, 3_000, 70_000) && fits(keel, 0, 20_000) {
+        Ok(Ship {
+            length,
+            breadth,
+            keel,
+            bilge,
+        })
+    } else {
+        Err(Fault::OutsideLimits)
     }
-}
-
-fn ship_fits(s: book::Ship) -> bool
-    ensures { result ≡ ok ship (ship_of s) }
-{
-    let sides = both(fits(s.keel, 0, 20_000), fits(s.bilge, 0, 1));
-    both(
-        fits(s.length, 24_000, 400_000),
-        both(fits(s.breadth, 3_000, 70_000), sides),
-    )
 }
 
 // A ship whose head is read: 3, 6.
-pub fn ship_in(s: &[u8], len: usize, line: usize) -> ShipRead
-    requires { 3 + len ≤ length s.now }
-    ensures { result ≡ ship_read (fixed_in line ship (head_at 0xA1 len s.now)) }
+pub fn ship_in(frame: Frame) -> Result<Ship, Refusal>
+    ensures { result ≡ answered plain_ship (fixed_in frame.entry.line ship (head_at 0xA1 frame.entry.head.len frame.entry.bytes.now)) }
 {
-    if s.len() != 3 + len {
-        return ShipRead::Refused(refusal(3, line, 0));
+    if !frame.fills_line() || frame.head.len != 13 {
+        return Err(Refusal::in_line(Fault::WrongLength, frame.line));
     }
-    if len != 13 {
-        return ShipRead::Refused(refusal(3, line, 0));
-    }
-    let ship = read_ship(&s[3..3 + len]);
-    if ship_fits(ship) {
-        ShipRead::Within(ship)
-    } else {
-        ShipRead::Refused(refusal(6, line, 0))
-    }
+    let Ok(ship) = read_ship(frame.body()) else {
+        return Err(Refusal::in_line(Fault::OutsideLimits, frame.line));
+    };
+    Ok(ship)
 }

@@ -1,1 +1,3 @@
+pub mod Faults
 pub mod Sets
+pub mod OneAnswer

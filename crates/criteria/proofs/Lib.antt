@@ -1,3 +1,3 @@
-pub mod Measures
+pub mod Taken
 pub mod Judgement
 pub mod OneAnswer

@@ -1,12 +1,12 @@
 // The figures of criteria 1 to 6.
-ghost use Rattle.std.specs.Prelude.{◌≡◌, min as minOf};
+ghost use Rattle.std.specs.Prelude.{◌≡◌};
 ghost use Rattle.rules.specs.Criteria.{set, greatest_lever, angle_of_greatest, gm as gmOf};
-ghost use Rattle.rules.specs.Ranges.{Fair};
 ghost use Rattle.book.specs.Book.{loaded_of};
-ghost use Rattle.gust.specs.Gusts.{Curve, Areas};
+ghost use Rattle.curve.specs.Heeled.{heeled};
 ghost use Rattle.criteria.specs.Figures.{righting_of};
 
-use book::Loaded;
+use book::Afloat;
+use curve::Curve;
 
 // Areas and the greatest lever in y units, the angle of the greatest in tenths of a degree, GM in tenths of a millimetre.
 #[derive(Clone, Copy)]
@@ -15,54 +15,46 @@ pub struct Righting {
     pub area2: i64,
     pub area3: i64,
     pub lever: i64,
-    pub angle: usize,
+    pub angle: i64,
     pub gm: i64,
 }
 
-fn min(a: usize, b: usize) -> usize
-    ensures { result ≡ minOf a b }
-{
-    if a < b { a } else { b }
-}
-
 // 4, from where the set looks: the lever at 5's angle if it is not before; a curve that ends before has the figure 0.
-fn greatest_lever(c: Loaded, from: usize, angle: usize, y: &[i64; 601]) -> i64
-    requires { Fair (loaded_of c) × (from ≡ (set (loaded_of c)).from) × (angle ≡ angle_of_greatest (loaded_of c)) × Curve (loaded_of c) y.now }
-    ensures { result ≡ greatest_lever (loaded_of c) }
+fn greatest_lever(curve: &Curve, from: usize, angle: usize) -> i64
+    requires { (from ≡ (set (heeled curve.now)).from) × (angle ≡ angle_of_greatest (heeled curve.now)) }
+    ensures { result ≡ greatest_lever (heeled curve.now) }
 {
-    let flooding = c.weather.flooding as usize;
+    let flooding = curve.flooding();
     if from <= angle {
-        return y[angle];
+        return curve.y(angle);
     }
     if flooding < from {
         return 0;
     }
-    let at = curve::searches::peak(y, from, flooding);
-    y[at]
+    let at = curve.peak(from, flooding);
+    curve.y(at)
 }
 
 // 6: KM - KG, KM in millimetres.
-fn gm(c: Loaded) -> i64
-    requires { Fair (loaded_of c) }
-    ensures { result ≡ gmOf (loaded_of c) }
+fn gm(c: &Afloat) -> i64
+    ensures { result ≡ gmOf (loaded_of c.now.loaded) }
 {
-    (10 * c.km) as i64 - c.kg as i64
+    (10 * c.loaded.km) as i64 - c.loaded.kg as i64
 }
 
 // The area from 30° on is what is left of the one to 40°: no area is worked out again.
-pub fn measure(c: Loaded, from: usize, y: &[i64; 601], area: &[i64; 601]) -> Righting
-    requires { Fair (loaded_of c) × (from ≡ (set (loaded_of c)).from) × Curve (loaded_of c) y.now × Areas (loaded_of c) area.now }
-    ensures { result ≡ righting_of (loaded_of c) }
+pub fn measure(curve: &Curve, from: usize) -> Righting
+    requires { from ≡ (set (heeled curve.now)).from }
+    ensures { result ≡ righting_of (heeled curve.now) }
 {
-    let flooding = c.weather.flooding as usize;
-    let to30 = min(300, flooding);
-    let to40 = min(400, flooding);
-    let area1 = area[to30];
-    let area3 = area[to40];
+    let flooding = curve.flooding();
+    let area1 = curve.area_to(flooding.min(300));
+    let area3 = curve.area_to(flooding.min(400));
     let area2 = area3 - area1;
-    let angle = curve::searches::peak(y, 0, flooding);
-    let lever = greatest_lever(c, from, angle, y);
-    let gm = gm(c);
+    let at = curve.peak(0, flooding);
+    let angle = at as i64;
+    let lever = greatest_lever(curve, from, at);
+    let gm = gm(curve.ship);
     Righting {
         area1,
         area2,

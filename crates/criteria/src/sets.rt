@@ -7,20 +7,19 @@ ghost use Rattle.criteria.specs.Figures.{plain_criteria};
 
 use book::Set;
 
-// The limits of 1 to 7 (areas and the lever in y units, angles in tenths of a degree, GM in tenths of a millimetre), from which angle 4 looks,
-// whether the deck edge counts in 7, and which of the eight slots are used.
+// The limits of 1 to 7 (areas and the lever in y units, angles in tenths of a degree, GM in tenths of a millimetre), none where the set does not use the slot;
+// from which angle 4 looks, and whether the deck edge counts in 7.
 #[derive(Clone, Copy)]
 pub struct Criteria {
-    pub area1: i64,
-    pub area2: i64,
+    pub area1: Option<i64>,
+    pub area2: Option<i64>,
     pub area3: i64,
     pub lever: i64,
-    pub angle: usize,
+    pub angle: Option<i64>,
     pub gm: i64,
     pub heel: usize,
     pub from: usize,
     pub deck: bool,
-    pub used: [bool; 8],
 }
 
 impl Criteria {
@@ -35,7 +34,7 @@ impl Criteria {
 
     pub const CODE_FROM: usize = 300;
 
-    pub const CODE_ANGLE: usize = 250;
+    pub const CODE_ANGLE: i64 = 250;
 
     pub const CODE_GM: i64 = 1500;
 
@@ -56,16 +55,15 @@ impl Criteria {
         ensures { result ≡ plain_criteria (limits_of code) }
     {
         Self {
-            area1: Self::CODE_AREA1,
-            area2: Self::CODE_AREA2,
+            area1: Some(Self::CODE_AREA1),
+            area2: Some(Self::CODE_AREA2),
             area3: Self::CODE_AREA3,
             lever: Self::CODE_LEVER,
-            angle: Self::CODE_ANGLE,
+            angle: Some(Self::CODE_ANGLE),
             gm: Self::CODE_GM,
             heel: Self::CODE_HEEL,
             from: Self::CODE_FROM,
             deck: true,
-            used: [true; 8],
         }
     }
 
@@ -74,26 +72,27 @@ impl Criteria {
         ensures { result ≡ plain_criteria (limits_of timber) }
     {
         Self {
-            area1: 0,
-            area2: 0,
+            area1: None,
+            area2: None,
             area3: Self::TIMBER_AREA3,
             lever: Self::TIMBER_LEVER,
-            angle: 0,
+            angle: None,
             gm: Self::TIMBER_GM,
             heel: Self::TIMBER_HEEL,
             from: Self::TIMBER_FROM,
             deck: false,
-            used: [false, false, true, true, false, true, true, true],
         }
     }
+}
 
-    // The set that the weather chose.
-    pub fn of(set: Set) -> Self
-        ensures { result ≡ plain_criteria (limits_of (set_of set)) }
-    {
+// The set that the weather chose.
+impl From<Set> for Criteria {
+    ghost from_gives = { λ s c. c ≡ plain_criteria (limits_of (set_of s)) };
+
+    fn from(set: Set) -> Criteria {
         match set {
-            Set::Code => Self::code(),
-            Set::Timber => Self::timber(),
+            Set::Code => Criteria::code(),
+            Set::Timber => Criteria::timber(),
         }
     }
 }

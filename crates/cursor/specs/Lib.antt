@@ -1,2 +1,1 @@
-pub mod BlockParts
 pub mod Readers

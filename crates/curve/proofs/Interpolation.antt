@@ -20,14 +20,13 @@ use Rattle.book.specs.Book.{ship_of, row_of, weather_of, rows_of, loaded_of}
 use Rattle.book.specs.declared.Row.{Row}
 use Rattle.book.specs.declared.Ship.{Ship}
 use Rattle.book.specs.declared.Weather.{Weather}
-use Rattle.book.specs.declared.Table.{Table}
 use Rattle.curve.specs.Weighing.{Whole}
 use Rattle.curve.specs.Interpolation.{no_row, row_at, Around, Neighbours, between, kn_between}
 use Rattle.curve.proofs.Limits.{mass_most}
 use Rattle.curve.proofs.Rows.{rows_long, row_at_lem}
 
 -- ---- two rows with W between them
-pub lies_between : (a b : Row) (w : ℕ) → Neighbours a b w → (v u : ℕ) → v < 65_536 → u < 65_536 → Between a.mass v b.mass u w
+pub lies_between : (a b : Row) (w : ℕ) → Neighbours a b w → (v u : ℕ) → v < 65_536 → u < 65_536 → Between (record { place = a.mass; value = v }) (record { place = b.mass; value = u }) w
 lies_between a b w n v u h k = record { rise = n.rise; from = n.from; to = n.to; far = mass_most (row_of b) n.upper; first = h; second = k }
 
 -- ---- rising rows, by number
@@ -61,47 +60,47 @@ module _ (rows : List rules.Row) (d : rules.Row) (k : ℕ) (more : suc k < lengt
       ((between_is f m rows h).amid (column f (take k rows)) (column f (drop (suc (suc k)) rows)) p q parts w from to)
       (line_rounded down p q w (rising_next m rows d h k more))
 
-module _ (t : Table) (whole : Whole t) (w i : ℕ) (around : Around t w i) where
-  fewer : i < length (rows_of t)
-  fewer = omega (arith, rows_long t whole, around.last)
+module _ (rows : List Row) (whole : Whole rows) (w i : ℕ) (around : Around rows w i) where
+  fewer : i < length (rows_of rows)
+  fewer = omega (arith, rows_long rows, around.last)
 
-  row_ok : (k : ℕ) → k < t.count → rules.ok rules.row (row_of (row_at t k)) ≡ true
-  row_ok k l = subst (λ (r : rules.Row). rules.ok rules.row r ≡ true) (row_at_lem t whole k l) (rising_ok 0 (rows_of t) (row_of no_row) whole.rising k (omega (arith, rows_long t whole)))
+  row_ok : (k : ℕ) → k < length rows → rules.ok rules.row (row_of (row_at rows k)) ≡ true
+  row_ok k l = subst (λ (r : rules.Row). rules.ok rules.row r ≡ true) (row_at_lem rows k) (rising_ok 0 (rows_of rows) (row_of no_row) whole.rising k (omega (arith, rows_long rows)))
 
   before : suc (i - 1) ≡ i
   before = omega (arith, around.first)
 
-  first_row : get_or (rows_of t) (i - 1) (row_of no_row) ≡ row_of (row_at t (i - 1))
-  first_row = row_at_lem t whole (i - 1) (omega (arith, around.last))
+  first_row : get_or (rows_of rows) (i - 1) (row_of no_row) ≡ row_of (row_at rows (i - 1))
+  first_row = row_at_lem rows (i - 1)
 
-  second_row_lem : get_or (rows_of t) (suc (i - 1)) (row_of no_row) ≡ row_of (row_at t i)
-  second_row_lem = rw before (row_at_lem t whole i around.last)
+  second_row_lem : get_or (rows_of rows) (suc (i - 1)) (row_of no_row) ≡ row_of (row_at rows i)
+  second_row_lem = rw before (row_at_lem rows i)
 
-  pub neighbours : Neighbours (row_at t (i - 1)) (row_at t i) w
+  pub neighbours : Neighbours (row_at rows (i - 1)) (row_at rows i) w
   neighbours = record {
     lower = row_ok (i - 1) (omega (arith, around.last));
     upper = row_ok i around.last;
-    rise = omega (arith, rising_next 0 (rows_of t) (row_of no_row) whole.rising (i - 1) (omega (arith, fewer, before)), ap (λ (r : rules.Row). r.mass) first_row, ap (λ (r : rules.Row). r.mass) second_row_lem);
+    rise = omega (arith, rising_next 0 (rows_of rows) (row_of no_row) whole.rising (i - 1) (omega (arith, fewer, before)), ap (λ (r : rules.Row). r.mass) first_row, ap (λ (r : rules.Row). r.mass) second_row_lem);
     from = around.from;
     to = around.to;
   }
 
   -- The straight line between the two rows is the rules' own; so is the KN at W.
-  pub between_rows : (f : rules.Row → ℕ) → curve.between (rows_of t) f w ≡ between (row_at t (i - 1)) (row_at t i) f w
+  pub between_rows : (f : rules.Row → ℕ) → curve.between (rows_of rows) f w ≡ between (row_at rows (i - 1)) (row_at rows i) f w
   between_rows f =
-      line_of (rows_of t) (row_of no_row) (i - 1) (omega (arith, fewer, before)) f 0 w whole.rising
+      line_of (rows_of rows) (row_of no_row) (i - 1) (omega (arith, fewer, before)) f 0 w whole.rising
       (omega (arith, around.from, ap (λ (r : rules.Row). r.mass) first_row))
       (omega (arith, around.to, ap (λ (r : rules.Row). r.mass) second_row_lem))
       ∙ rw (first_row, second_row_lem)
 
-  pub kn_rows : curve.kn_at (rows_of t) w ≡ kn_between (row_at t (i - 1)) (row_at t i) w
+  pub kn_rows : curve.kn_at (rows_of rows) w ≡ kn_between (row_at rows (i - 1)) (row_at rows i) w
   unfolding curve.kn_at
   kn_rows = λ l. map (λ s. between_rows (λ r. get_or r.kn s 0) l) curve.stations
 
   -- 'd, KM and each KN.'
-  pub loaded_is : (ship : Ship) (weather : Weather) (kg d m : ℕ) (kn : List ℕ) → d ≡ between (row_at t (i - 1)) (row_at t i) (λ r. r.draught) w → m ≡ between (row_at t (i - 1)) (row_at t i) (λ r. r.km) w
-      → kn ≡ kn_between (row_at t (i - 1)) (row_at t i) w
-      → loaded_of (record { ship = ship; weather = weather; w = w; kg = kg; draught = d; km = m; kn = kn }) ≡ curve.loaded_at tenths (ship_of ship) (rows_of t) (weather_of weather) w kg
+  pub loaded_is : (ship : Ship) (weather : Weather) (kg d m : ℕ) (kn : List ℕ) → d ≡ between (row_at rows (i - 1)) (row_at rows i) (λ r. r.draught) w → m ≡ between (row_at rows (i - 1)) (row_at rows i) (λ r. r.km) w
+      → kn ≡ kn_between (row_at rows (i - 1)) (row_at rows i) w
+      → loaded_of (record { ship = ship; weather = weather; w = w; kg = kg; draught = d; km = m; kn = kn }) ≡ curve.loaded_at tenths (ship_of ship) (rows_of rows) (weather_of weather) w kg
   unfolding curve.loaded_at
   loaded_is ship weather kg d m kn ed em ek = λ j. record {
     unit = tenths;

@@ -13,7 +13,7 @@ use mir.Facts.{and_yes}
 use Rattle.rules.specs.Loading.{tenths}
 use Rattle.rules.specs.Curve.{sines, lever}
 use Rattle.rules.proofs.rounding.Signed.{up, dn, up_add, dn_add, up_mull, dn_mull, up_sub, dn_sub, mag_le}
-use Rattle.curve.specs.Levers.{Sized, Within, most_g, most_y, g, levers_of, straight, Holds, held, up_to}
+use Rattle.curve.specs.Levers.{Sized, Within, most_g, most_y, g, levers_of, straight, Holds, up_to}
 use Rattle.curve.proofs.Areas.{up_to_none, up_to_more}
 use Rattle.curve.proofs.Filling.{at_station}
 use Rattle.curve.proofs.Straight.{straight_lever}
@@ -85,7 +85,7 @@ module _ (kn : List ℕ) (kg : ℕ) (sizes : Sized kn kg) where
   levers_within = within_by most_g (levers_of kn kg) (λ i l. rw (at_station (pos 0) (g kn kg) i l) (g_within i))
 
   -- y is the straight line between two of them.
-  y_within : (t : ℕ) → t ≤ 600 → nat_abs (lever tenths kn kg t) ≤ most_y
+  pub y_within : (t : ℕ) → t ≤ 600 → nat_abs (lever tenths kn kg t) ≤ most_y
   unfolding straight
   y_within t h =
       rw (← straight_lever kn kg t h)
@@ -95,11 +95,11 @@ module _ (kn : List ℕ) (kg : ℕ) (sizes : Sized kn kg) where
   curve_within ys is = within_by most_y ys (λ i l. let h : i ≤ 600 = omega (arith, is.long) in rw (is.at i h) (y_within i h))
 
 -- An area is that of n strips.
-pub areas_within : (ys : List ℤ) → Within most_y ys → (n : ℕ) → nat_abs (up_to (held ys) n) ≤ n * (2 * most_y)
-unfolding held
-areas_within ys small zero = rw (up_to_none (held ys)) (omega arith)
-areas_within ys small (suc n) =
-    let e : suc n ≡ n + 1 = omega arith in
-    let a = get_or ys n (pos 0) in
-    let b = get_or ys (n + 1) (pos 0) in
-    rw e (rw (up_to_more (held ys) n) (omega (arith, abs_add (up_to (held ys) n) (a +ℤ b), abs_add a b, small n, small (n + 1), areas_within ys small n)))
+module _ (f : ℤ → ℤ) where
+  pub areas_within : (n : ℕ) → ((t : ℕ) → t ≤ n → nat_abs (f (pos t)) ≤ most_y) → nat_abs (up_to f n) ≤ n * (2 * most_y)
+  areas_within zero small = rw (up_to_none f) (omega arith)
+  areas_within (suc n) small =
+      let e : suc n ≡ n + 1 = omega arith in
+      let a = f (pos n) in
+      let b = f (pos (n + 1)) in
+      rw e (rw (up_to_more f n) (omega (arith, abs_add (up_to f n) (a +ℤ b), abs_add a b, small n (omega arith), small (n + 1) (omega arith), areas_within n (λ t l. small t (omega arith)))))

@@ -1,13 +1,12 @@
 -- A reading within its limits gives a whole table and sums that the machine can hold; and what is worked out of them is what the rules say of the reading.
-use mathlib.Core.Path.{◌≡◌, refl, ap, ◌∙◌}
+use mathlib.Core.Path.{◌≡◌, refl, ap}
 use mathlib.Core.Bool.{true}
 use mathlib.Core.List.{List, [], ◌∷◌, map}
 use Prim.Native.Nat.{ℕ, ◌*◌, ◌≤◌}
 use native.Mathlib.Omega.{arith}
 use native.Mathlib.Nat.{mul-le-mul_right}
 use lib.Dec.{leb}
-use lib.ListN.{length, length-append, length-map, length-replicate}
-use lib.Seq.{take_at}
+use lib.ListN.{length-map}
 use Rattle.rules.specs.Layout.{Entries, end, leaf, group, Good, leaves, Reading, Limits}
 use Rattle.rules.specs.Outcome.{got, test}
 use Rattle.rules.specs.Loading.{tenths, Entry, flat, total, mass, moment, free_surface, in_table, displacement, corrected_kg, greatest_kg, entries_of, weighed, weighed_in}
@@ -16,27 +15,18 @@ use Rattle.rules.specs.Blocks as rules
 use Rattle.rules.proofs.walk.Outcome.{test_inv}
 use Rattle.rules.proofs.loading.EntryLimits.{Each, masses, moments, surfaces}
 use Rattle.rules.proofs.loading.Sums.{total_append}
-use Rattle.book.specs.Book.{row_of, rows_of, plain_row, table_of, sums_of}
+use Rattle.book.specs.Book.{rows_of, plain_row, sums_of}
 use Rattle.curve.specs.Weighing.{Whole, Sound, weighed_of, Weighs}
 use Rattle.curve.proofs.Weighing.{weighs}
 
 -- ---- the table
-module _ (rows : List rules.Row) where
-  back : (rs : List rules.Row) → map row_of (map plain_row rs) ≡ rs
-  back [] = refl
-  back (r ∷ rs) = ap (λ (l : List rules.Row). r ∷ l) (back rs)
+pub table_rows : (rows : List rules.Row) → rows_of (map plain_row rows) ≡ rows
+unfolding rows_of
+table_rows [] = refl
+table_rows (r ∷ rs) = ap (λ (l : List rules.Row). r ∷ l) (table_rows rs)
 
-  pub table_rows : rows_of (table_of rows) ≡ rows
-  unfolding rows_of table_of
-  table_rows = ap (map row_of) (take_at (map plain_row rows) _ (length rows) (length-map rows plain_row)) ∙ back rows
-
-  table_long : length rows ≤ 40 → length (table_of rows).rows ≡ 40
-  unfolding table_of
-  table_long h = simp (length-append, length-map, length-replicate) (omega arith)
-
-pub whole : (r : Reading) → Limits r → Whole (table_of r.rows)
-unfolding table_of
-whole r l = record { few = l.few; many = l.many; long = table_long r.rows l.many; rising = rw (table_rows r.rows) l.rising }
+pub whole : (r : Reading) → Limits r → Whole (map plain_row r.rows)
+whole r l = record { few = simp length-map l.few; many = simp length-map l.many; rising = rw (table_rows r.rows) l.rising }
 
 -- ---- the sums
 module _ (f : Entry → ℕ) (n : ℕ) (each : Each f n) where
@@ -49,7 +39,7 @@ module _ (f : Entry → ℕ) (n : ℕ) (each : Each f n) where
   most : (F : Entries) → Good F → leaves F ≤ 200 → total f (flat F) ≤ 200 * n
   most F g l = omega (arith, total_most F g, mul-le-mul_right n l)
 
-pub sound : (r : Reading) → Limits r → Sound (sums_of r.condition.load) (table_of r.rows)
+pub sound : (r : Reading) → Limits r → Sound (sums_of r.condition.load) (map plain_row r.rows)
 unfolding sums_of
 sound r l =
     let F = r.condition.load in
@@ -65,14 +55,14 @@ sound r l =
 
 -- ---- a reading, handed on as plain data
 module _ (r : Reading) where
-  pub reading_weighs : Weighs r (weighed_of (rows_of (table_of r.rows)) (sums_of r.condition.load))
+  pub reading_weighs : Weighs r (weighed_of (rows_of (map plain_row r.rows)) (sums_of r.condition.load))
   reading_weighs = rw (table_rows r.rows) (weighs r)
 
-  pub reading_in_table : weighed r ≡ got tt → in_table (rows_of (table_of r.rows)) (displacement (entries_of r)) ≡ true
+  pub reading_in_table : weighed r ≡ got tt → in_table (rows_of (map plain_row r.rows)) (displacement (entries_of r)) ≡ true
   unfolding weighed_in
   reading_in_table e =
       rw (table_rows r.rows) (test_inv (in_table r.rows (displacement (entries_of r))) 7 0 0 (test (leb (corrected_kg (entries_of r)) (tenths * greatest_kg)) 8 0 0) e).0
 
-  pub reading_loaded : loaded_at tenths r.ship (rows_of (table_of r.rows)) r.condition.weather (displacement (entries_of r)) (corrected_kg (entries_of r)) ≡ loaded r
+  pub reading_loaded : loaded_at tenths r.ship (rows_of (map plain_row r.rows)) r.condition.weather (displacement (entries_of r)) (corrected_kg (entries_of r)) ≡ loaded r
   unfolding loaded_in
   reading_loaded = rw (table_rows r.rows)

@@ -1,38 +1,44 @@
 -- The searches of document 01, one step at a time, as a loop takes them.
-use mathlib.Core.Path.{◌≡◌, sym, ◌∙◌, ap}
+use mathlib.Core.Path.{◌≡◌, refl, sym, ◌∙◌, ap}
 use mathlib.Core.Bool.{Bool, true, false}
 use Prim.Native.Nat.{ℕ, suc, ◌+◌, ◌-◌, ◌≤◌, ◌<◌}
 use native.Mathlib.Omega.{arith}
 use lib.IntN.{ℤ, pos}
 use lib.Signed.{le_z, lt_z}
+use Rattle.std.specs.Prelude.{Some, None}
+use borrow.Author.Tests.{le-leb, lt-leb, leb-true, leb-false}
+use Rattle.std.specs.Prelude.{cond}
+use Rattle.std.proofs.lemmas.Option.{none-some}
+use lib.Dec.{leb}
 use Rattle.rules.specs.Rounding.{first, first_in, peak}
 use Rattle.rules.specs.Criteria.{reaches}
 use Rattle.rules.specs.Roll.{stays}
+use Rattle.curve.specs.Heeled.{not_past}
 
 -- ---- 'the first t with the greatest y'
 choice : ℕ → ℕ → Bool → ℕ
 choice s m b = elim b [ true ↦ s | false ↦ m ]
 
 module _ (f : ℕ → ℤ) (a : ℕ) where
-  pub peak_starts : a ≡ peak f a (a - a)
+  pub peak_starts : a ≡ peak f a (a + 1 - (a + 1))
   unfolding peak
-  peak_starts = let e : a - a ≡ 0 = omega arith in rw e
+  peak_starts = let e : a + 1 - (a + 1) ≡ 0 = omega arith in rw e
 
   one_more : (n s m : ℕ) → s ≡ a + suc n → m ≡ peak f a n → peak f a (suc n) ≡ choice s m (lt_z (f m) (f s))
   unfolding peak choice
   one_more n s m p q = rw (p, q)
 
-  module _ (t m : ℕ) (from : a ≤ t) (so_far : m ≡ peak f a (t - a)) where
-    next_peak : peak f a (t + 1 - a) ≡ choice (t + 1) m (lt_z (f m) (f (t + 1)))
-    next_peak = let n : t + 1 - a ≡ suc (t - a) = omega arith in rw n (one_more (t - a) (t + 1) m (omega arith) so_far)
+  module _ (t m : ℕ) (from : a + 1 ≤ t) (so_far : m ≡ peak f a (t - (a + 1))) where
+    next_peak : peak f a (t + 1 - (a + 1)) ≡ choice t m (lt_z (f m) (f t))
+    next_peak = let n : t + 1 - (a + 1) ≡ suc (t - (a + 1)) = omega arith in rw n (one_more (t - (a + 1)) t m (omega arith) so_far)
 
-    pub peak_moves : lt_z (f m) (f (t + 1)) ≡ true → t + 1 ≡ peak f a (t + 1 - a)
+    pub peak_moves : lt_z (f m) (f t) ≡ true → t ≡ peak f a (t + 1 - (a + 1))
     unfolding choice
-    peak_moves e = sym (next_peak ∙ ap (choice (t + 1) m) e)
+    peak_moves e = sym (next_peak ∙ ap (choice t m) e)
 
-    pub peak_keeps : lt_z (f m) (f (t + 1)) ≡ false → m ≡ peak f a (t + 1 - a)
+    pub peak_keeps : lt_z (f m) (f t) ≡ false → m ≡ peak f a (t + 1 - (a + 1))
     unfolding choice
-    peak_keeps e = sym (next_peak ∙ ap (choice (t + 1) m) e)
+    peak_keeps e = sym (next_peak ∙ ap (choice t m) e)
 
 -- ---- 'the first t from t₀ to e with'
 module _ (p : ℕ → Bool) (t e : ℕ) where
@@ -72,6 +78,12 @@ module _ (f : ℤ → ℤ) (level : ℤ) (t e : ℕ) where
   unfolding reaches
   reaches_none h = sym (none_left (λ k. le_z level (f (pos k))) t e h)
 
+  pub found_at : t ≤ e → t ≡ reaches f level t e → Some t ≡ not_past e (reaches f level t e)
+  found_at h k = rw (← k, le-leb t e h)
+
+  pub found_none : e < t → None ≡ not_past e (reaches f level t e)
+  found_none h = rw (← reaches_none h, lt-leb t e h)
+
   -- ---- 'the last tenth up to which GZ stays at or above lw2'
   pub stays_on : t ≤ e → lt_z (f (pos t)) level ≡ false → stays f level t e ≡ stays f level (t + 1) e
   unfolding stays
@@ -84,3 +96,18 @@ module _ (f : ℤ → ℤ) (level : ℤ) (t e : ℕ) where
   pub stays_all : e ≤ t → t ≡ stays f level (t + 1) e
   unfolding stays
   stays_all h = let s : t ≡ t + 1 - 1 = omega arith in s ∙ ap (λ (n : ℕ). n - 1) (sym (none_left (λ k. lt_z (f (pos k)) level) (t + 1) e (omega arith)))
+
+-- ---- what an answer says of the first tenth that the rules find
+pub some_within : (to n t : ℕ) → Some t ≡ not_past to n → (t ≡ n) × (n ≤ to)
+some_within to n t = go (leb n to) refl
+  where
+    go : (b : Bool) → leb n to ≡ b → Some t ≡ cond b (Some n) None → (t ≡ n) × (n ≤ to)
+    go true e p = (cc, leb-true n to e)
+    go false e p = absurd (none-some t (sym p))
+
+pub none_past : (to n : ℕ) → None ≡ not_past to n → to < n
+none_past to n = go (leb n to) refl
+  where
+    go : (b : Bool) → leb n to ≡ b → None ≡ cond b (Some n) None → to < n
+    go true e p = absurd (none-some n p)
+    go false e p = leb-false n to e

@@ -1,25 +1,28 @@
 -- What the table gives at W: the two rows around W, and the straight line between them.
-use Rattle.std.specs.Prelude.{◌≡◌, true, List, [], map, ℕ, ◌-◌, ◌≤◌, ◌<◌, get_or}
+use Rattle.std.specs.Prelude.{◌≡◌, Bool, true, nat_lt, List, [], map, ℕ, ◌-◌, ◌≤◌, ◌<◌, get_or, length}
 use Rattle.rules.specs.Rounding.{down, point, line}
 use Rattle.rules.specs.Curve.{stations}
 use Rattle.rules.specs.Blocks as rules
 use Rattle.book.specs.Book.{row_of}
 use Rattle.book.specs.declared.Row.{Row}
-use Rattle.book.specs.declared.Table.{Table}
 
--- The row of a number, and what stands for one beyond the array.
+-- The row of a number, and what stands for one beyond the table.
 abbrev pub no_row : Row
 no_row = record { mass = 0; draught = 0; km = 0; kn = [] }
 
-abbrev pub row_at : Table → ℕ → Row
-row_at t i = get_or t.rows i no_row
+abbrev pub row_at : List Row → ℕ → Row
+row_at rows i = get_or rows i no_row
+
+-- A row that is heavier than W.
+abbrev pub heavier : ℕ → Row → Bool
+heavier w r = nat_lt w r.mass
 
 -- The second of the two rows around W has this number.
-pub record Around (t : Table) (w i : ℕ) : Type 0 where
+pub record Around (rows : List Row) (w i : ℕ) : Type 0 where
   pub first : 1 ≤ i
-  pub last : i < t.count
-  pub from : (row_at t (i - 1)).mass ≤ w
-  pub to : w ≤ (row_at t i).mass
+  pub last : i < length rows
+  pub from : (row_at rows (i - 1)).mass ≤ w
+  pub to : w ≤ (row_at rows i).mass
 
 -- Two rows within their limits, and W between theirs.
 pub record Neighbours (a b : Row) (w : ℕ) : Type 0 where

@@ -1,3 +1,4 @@
 pub mod Weighing
 pub mod Interpolation
 pub mod Levers
+pub mod Heeled

@@ -26,10 +26,8 @@ fn levers(kn: [u64; 13], kg: u64) -> [i64; 13]
     ensures { result ≡ levers_of kn kg }
 {
     let mut g = [0i64; 13];
-    let mut i = 0;
-    while i < 13 {
+    for i in 0..13 {
         g[i] = lever(kn[i], kg, i);
-        i = i + 1;
     }
     g
 }
@@ -45,39 +43,33 @@ fn fifty(a: i64, b: i64, m: u64) -> i64
 }
 
 // y at each tenth: at the last one the last station's, before it between two stations.
-fn each_tenth(g: [i64; 13]) -> [i64; 601]
+fn each_tenth(g: [i64; 13], y: &mut [i64; 601])
     requires { Within most_g g }
-    ensures { Holds (straight g) result }
+    ensures { Holds (straight g) y.new }
 {
     let end = fifty(g[11], g[12], 50);
-    let mut y = [end; 601];
-    let mut t = 0;
-    while t < 600 {
+    y[600] = end;
+    for t in 0..600 {
         y[t] = fifty(g[t / 50], g[t / 50 + 1], (t % 50) as u64);
-        t = t + 1;
     }
-    y
 }
 
 // The curve of the loaded ship: y at each tenth.
-pub fn curve(kn: [u64; 13], kg: u64) -> [i64; 601]
+pub fn curve(kn: [u64; 13], kg: u64, y: &mut [i64; 601])
     requires { Sized kn kg }
-    ensures { Holds (leverOf tenths kn kg) result }
+    ensures { Holds (leverOf tenths kn kg) y.new }
 {
     let g = levers(kn, kg);
-    each_tenth(g)
+    each_tenth(g, y);
 }
 
 // The area from 0 to each tenth.
-pub fn areas(y: &[i64; 601]) -> [i64; 601]
+pub fn areas(y: &[i64; 601], area: &mut [i64; 601])
     requires { Within most_y y.now }
-    ensures { Holds (up_to (held y.now)) result }
+    ensures { Holds (up_to (held y.now)) area.new }
 {
-    let mut area = [0i64; 601];
-    let mut t = 0;
-    while t < 600 {
+    area[0] = 0;
+    for t in 0..600 {
         area[t + 1] = area[t] + (y[t] + y[t + 1]);
-        t = t + 1;
     }
-    area
 }

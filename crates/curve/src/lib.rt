@@ -1,7 +1,10 @@
 // From the sums and the table to the curve: the displacement and KG, what the table gives there, the levers, y at each tenth of a degree, areas, and searches along the curve.
 #![tactic(auto)]
 
-pub mod levers;
+mod levers;
 pub mod loading;
-pub mod searches;
+mod searches;
 pub mod table;
+mod tenths;
+
+pub use tenths::Curve;

@@ -1,52 +1,28 @@
 // The displacement W and the corrected KG, or the refusals 7 and 8.
 ghost use Rattle.std.specs.Prelude.{◌≡◌, ◌<◌};
 ghost use Rattle.rules.specs.Loading.{in_table};
-ghost use Rattle.book.specs.Book.{rows_of, refusal};
-ghost use Rattle.curve.specs.Weighing.{Whole, InMachine, Sound, kg_of, weighed_of, weighed_fault};
+ghost use Rattle.book.specs.Book.{rows_of};
+ghost use Rattle.curve.specs.Weighing.{Whole, InMachine, Sound, kg_of, weighed_of};
 
-use book::{Refusal, Sums, Table};
+use book::{Fault, Row, Sums};
 
 // Above this KG, in tenths of a millimetre, no ship is judged.
 const GREATEST_KG: u64 = 600_000;
 
-// The ship's weight and its centre, or why it is not judged.
+// The ship's weight and its centre.
 #[derive(Clone, Copy)]
-pub enum Weighed {
-    Fine { w: u64, kg: u64 },
-    Refused(Refusal),
-}
-
-impl Weighed {
-    // The refusal, or none.
-    pub fn fault(self) -> Refusal
-        ensures { result ≡ weighed_fault self }
-    {
-        match self {
-            Weighed::Fine { w: _, kg: _ } => book::NO_REFUSAL,
-            Weighed::Refused(r) => r,
-        }
-    }
-}
-
-// A refusal that has no place in the text.
-fn refused(number: u8) -> Weighed
-    ensures { result ≡ Weighed.Refused (refusal number 0 0) }
-{
-    Weighed::Refused(Refusal {
-        number,
-        line: 0,
-        offset: 0,
-    })
+pub struct Weight {
+    pub w: u64,
+    pub kg: u64,
 }
 
 // 7: 'total mass below the first row or above the last'.
-fn in_table(table: Table, w: u64) -> bool
-    requires { Whole table }
-    ensures { result ≡ in_table (rows_of table) w }
+fn in_table(rows: &[Row], w: u64) -> bool
+    requires { Whole rows.now }
+    ensures { result ≡ in_table (rows_of rows.now) w }
 {
-    let end = table.count - 1;
-    let lowest = table.rows[0];
-    let highest = table.rows[end];
+    let lowest = rows[0];
+    let highest = rows[rows.len() - 1];
     lowest.mass <= w && w <= highest.mass
 }
 
@@ -58,18 +34,18 @@ fn corrected_kg(sums: Sums) -> u64
     rounding::ceil(10 * (sums.moment + sums.free), sums.mass)
 }
 
-// 7, then 8: '8 now above 600,000'.
-pub fn weigh(sums: Sums, table: Table) -> Weighed
-    requires { Sound sums table }
-    ensures { result ≡ weighed_of (rows_of table) sums }
+// 7, then 8: '8 now above 600,000'. Neither has a place in the text.
+pub fn weigh(sums: Sums, rows: &[Row]) -> Result<Weight, Fault>
+    requires { Sound sums rows.now }
+    ensures { result ≡ weighed_of (rows_of rows.now) sums }
 {
     let w = sums.mass;
-    if !in_table(table, w) {
-        return refused(7);
+    if !in_table(rows, w) {
+        return Err(Fault::OutsideTable);
     }
     let kg = corrected_kg(sums);
     if GREATEST_KG < kg {
-        return refused(8);
+        return Err(Fault::KgTooHigh);
     }
-    Weighed::Fine { w, kg }
+    Ok(Weight { w, kg })
 }

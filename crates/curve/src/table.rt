@@ -1,75 +1,83 @@
 // What the table gives at W: d, KM and each KN on the straight line between the two rows around W, rounded down.
-ghost use Rattle.std.specs.Prelude.{◌≡◌, true};
+ghost use Rattle.std.specs.Prelude.{◌≡◌, true, ◌<◌};
+ghost use Rattle.std.specs.List.{position};
 ghost use Rattle.rules.specs.Rounding.{down, point, line};
 ghost use Rattle.rules.specs.Loading.{tenths, in_table};
 ghost use Rattle.rules.specs.Curve.{loaded_at};
-ghost use Rattle.rounding.specs.Points.{Between};
 ghost use Rattle.book.specs.Book.{ship_of, rows_of, weather_of, loaded_of};
 ghost use Rattle.curve.specs.Weighing.{Whole};
-ghost use Rattle.curve.specs.Interpolation.{Around, Neighbours, kn_between};
+ghost use Rattle.curve.specs.Interpolation.{heavier, Around, Neighbours, kn_between};
 
-use book::{Loaded, Row, Ship, Table, Weather};
+use super::loading::Weight;
+use book::{Loaded, Row, Ship, Weather};
+use rounding::{Point, Way};
 
-// The number of the second of the two rows around W.
-fn around(table: Table, w: u64) -> usize
-    requires { Whole table × (in_table (rows_of table) w ≡ true) }
-    ensures { Around table w result }
-{
-    let end = table.count - 1;
-    let mut i = 1;
-    while i < end {
-        let row = table.rows[i];
-        if w < row.mass {
-            return i;
+// Two rows with W between them.
+#[derive(Drop)]
+struct Pair {
+    lower: Row,
+    upper: Row,
+    w: u64,
+    ghost neighbours: { Neighbours lower upper w },
+}
+
+impl Pair {
+    // At W, from a value of each row.
+    fn between(&self, low: u64, high: u64) -> u64
+        requires { (low < 65_536) × (high < 65_536) }
+        ensures { result ≡ line down (point self.now.lower.mass low) (point self.now.upper.mass high) self.now.w }
+    {
+        let from = Point {
+            place: self.lower.mass,
+            value: low,
+        };
+        let to = Point {
+            place: self.upper.mass,
+            value: high,
+        };
+        rounding::line(from, to, self.w, Way::Down)
+    }
+
+    // KN at each station.
+    fn kn(&self) -> [u64; 13]
+        ensures { result ≡ kn_between self.now.lower self.now.upper self.now.w }
+    {
+        let mut kn = [0u64; 13];
+        for i in 0..13 {
+            kn[i] = self.between(u64::from(self.lower.kn[i]), u64::from(self.upper.kn[i]));
         }
-        i = i + 1;
+        kn
     }
-    i
 }
 
-// A KN of a row, in millimetres.
-fn millimetres(x: u16) -> u64
-    ensures { result ≡ x }
+// The first row that is heavier than W.
+fn heavier(rows: &[Row], w: u64) -> Option<usize>
+    ensures { result ≡ position (heavier w) rows.now }
 {
-    x as u64
+    rows.iter().position(|row| w < row.mass)
 }
 
-// On the straight line between two rows at W, from a value of each, rounded down.
-fn between(a: Row, low: u64, b: Row, high: u64, w: u64) -> u64
-    requires { Between a.mass low b.mass high w }
-    ensures { result ≡ line down (point a.mass low) (point b.mass high) w }
+// The number of the second of the two rows around W: the first heavier row, or the last.
+fn around(rows: &[Row], w: u64) -> usize
+    requires { Whole rows.now × (in_table (rows_of rows.now) w ≡ true) }
+    ensures { Around rows.now w result }
 {
-    rounding::line_down(a.mass, low, b.mass, high, w)
-}
-
-// KN at each station.
-fn kn_between(a: Row, b: Row, w: u64) -> [u64; 13]
-    requires { Neighbours a b w }
-    ensures { result ≡ kn_between a b w }
-{
-    let lower = a.kn;
-    let upper = b.kn;
-    let mut kn = [0u64; 13];
-    let mut i = 0;
-    while i < 13 {
-        kn[i] = between(a, millimetres(lower[i]), b, millimetres(upper[i]), w);
-        i = i + 1;
-    }
-    kn
+    heavier(rows, w).unwrap_or(rows.len() - 1)
 }
 
 // The loaded ship at W and KG.
-pub fn loaded(ship: Ship, weather: Weather, table: Table, w: u64, kg: u64) -> Loaded
-    requires { Whole table × (in_table (rows_of table) w ≡ true) }
-    ensures { loaded_of result ≡ loaded_at tenths (ship_of ship) (rows_of table) (weather_of weather) w kg }
+pub fn loaded(ship: Ship, weather: Weather, rows: &[Row], weight: Weight) -> Loaded
+    requires { Whole rows.now × (in_table (rows_of rows.now) weight.w ≡ true) }
+    ensures { loaded_of result ≡ loaded_at tenths (ship_of ship) (rows_of rows.now) (weather_of weather) weight.w weight.kg }
 {
-    let upper = around(table, w);
-    let lower = upper - 1;
-    let a = table.rows[lower];
-    let b = table.rows[upper];
-    let draught = between(a, a.draught, b, b.draught, w);
-    let km = between(a, a.km, b, b.km, w);
-    let kn = kn_between(a, b, w);
+    let Weight { w, kg } = weight;
+    let second = around(rows, w);
+    let lower = rows[second - 1];
+    let upper = rows[second];
+    let pair = Pair { lower, upper, w };
+    let draught = pair.between(lower.draught, upper.draught);
+    let km = pair.between(lower.km, upper.km);
+    let kn = pair.kn();
     Loaded {
         ship,
         weather,

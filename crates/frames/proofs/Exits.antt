@@ -5,22 +5,16 @@ use mathlib.Core.List.{List}
 use Prim.Native.Nat.{ℕ}
 use native.Mathlib.Omega.{arith}
 use lib.Dec.{ltb, eqb}
-use Rattle.rules.specs.Blocks.{Row, row, condition_tag}
+use Rattle.rules.specs.Blocks.{row, condition_tag}
 use Rattle.rules.specs.Layout.{most_rows}
-use Rattle.rules.specs.Outcome.{Ans, refused, got}
+use Rattle.rules.specs.Outcome.{refused, got}
 use Rattle.rules.specs.Walk.{header, condition_in, fixed_in, row_in}
 use Rattle.rules.specs.Booklet.{row_at, condition_at}
 use Rattle.rules.specs.Parts.{head_at}
-use Rattle.book.specs.Book.{refusal}
-use Rattle.book.specs.declared.Refusal.{Refusal}
-use Rattle.blocks.specs.BlockAnswers.{row_read}
 use Rattle.rules.proofs.walk.Outcome.{bind_got, bind_refused, test_got, test_refused}
 use Rattle.frames.specs.FrameAnswers.{row_due}
 
 -- ---- where a row is due
-pub refused_row : (x : Refusal) (n l o : ℕ) (m : Ans Row) → x ≡ refusal n l o → m ≡ refused n l o → row_read (refused x.number x.line x.offset) ≡ row_read m
-refused_row x n l o m p q = rw (p, q)
-
 module _ (ln k p : ℕ) (s : List ℕ) where
   pub row_short : header ln 0 s ≡ refused 2 ln 0 → row_at ln k p s ≡ refused 2 ln 0
   unfolding row_at

@@ -4,5 +4,6 @@ pub mod Blocks
 pub mod Load
 pub mod Frame
 pub mod Exits
-pub mod Long
+pub mod Heads
+pub mod LongLines
 pub mod OneAnswer

@@ -3,43 +3,21 @@ use Rattle.std.specs.Prelude.{Bool, false, cond, ◌&&◌, List, ℕ, ◌+◌, l
 use Rattle.rules.specs.Blocks.{ship, row}
 use Rattle.rules.specs.Layout.{Entries, most_rows}
 use Rattle.rules.specs.Layout as rules
-use Rattle.rules.specs.Outcome.{Ans, refused, got}
 use Rattle.rules.specs.Parts.{be2}
-use Rattle.book.specs.Book.{refusal, no_refusal, plain_weather, sums_of}
+use Rattle.book.specs.Book.{refusal, plain_weather, sums_of}
 use Rattle.book.specs.declared.Refusal.{Refusal}
 use Rattle.book.specs.declared.Sums.{Sums}
-use Rattle.book.specs.declared.Weather.{Weather}
 use Rattle.frames.specs.Sums.{plus}
-use Rattle.frames.specs.declared.LoadRead.{LoadRead}
-use Rattle.frames.specs.declared.LoadRead.TheVariants as load
 use Rattle.frames.specs.declared.Condition.{Condition}
-use Rattle.frames.specs.declared.ConditionRead.{ConditionRead}
-use Rattle.frames.specs.declared.ConditionRead.TheVariants as condition
+use Rattle.frames.specs.declared.Due.{Due}
+use Rattle.frames.specs.declared.Due.TheVariants as due
 
--- The entries, on top of t.
-abbrev pub load_read : Sums → Ans Entries → LoadRead
-load_read t (refused n l o) = load.Refused (refusal n l o)
-load_read t (got F) = load.Sum (plus t (sums_of F))
-
-abbrev pub load_fault : LoadRead → Refusal
-load_fault (load.Sum t) = no_refusal
-load_fault (load.Refused r) = r
+-- The sums of the entries, on top of t.
+abbrev pub on_top : Sums → Entries → Sums
+on_top t F = plus t (sums_of F)
 
 abbrev pub plain_condition : rules.Condition → Condition
 plain_condition c = record { weather = plain_weather c.weather; sums = sums_of c.load }
-
-abbrev pub condition_read : Ans rules.Condition → ConditionRead
-condition_read (refused n l o) = condition.Refused (refusal n l o)
-condition_read (got c) = condition.Within (plain_condition c)
-
-abbrev pub condition_fault : ConditionRead → Refusal
-condition_fault (condition.Within c) = no_refusal
-condition_fault (condition.Refused r) = r
-
--- The weather, and the load after it.
-abbrev pub loaded : Weather → LoadRead → ConditionRead
-loaded w (load.Sum t) = condition.Within (record { weather = w; sums = t })
-loaded w (load.Refused r) = condition.Refused r
 
 -- ---- which tag is due: the ship's; a row's, with k rows before it; none behind a condition line
 abbrev pub ship_due : ℕ → Bool
@@ -50,6 +28,11 @@ row_due k t = eqb t row.tag && ltb k most_rows
 
 abbrev pub none_due : ℕ → Bool
 none_due t = false
+
+abbrev pub due_of : Due → ℕ → Bool
+due_of due.Ship = ship_due
+due_of (due.Row k) = row_due k
+due_of due.Nothing = none_due
 
 -- ---- a line of n bytes by its head alone, whose length is len
 -- More than a ship or a row has: 2, then 4 where the tag is not due, else 3.

@@ -2,82 +2,51 @@
 // each answer is taken, or its refusal is returned with its place.
 #![tactic(auto)]
 
-ghost use Rattle.std.specs.Prelude.{◌≡◌, ◌+◌, ◌-◌, ◌≤◌, length};
+ghost use Rattle.std.specs.Prelude.{◌≡◌, ◌+◌, ◌-◌, ◌≤◌, length, IfOk};
+ghost use Rattle.std.specs.Result.{result_map_both};
 ghost use Rattle.rules.specs.Layout.{most_entries, most_bytes};
-ghost use Rattle.rules.specs.Outcome.{refused};
-ghost use Rattle.rules.specs.Walk.{entries, load_at, inside, condition_in, ship_frame};
+ghost use Rattle.rules.specs.Walk.{header, entries, load_at, inside, condition_in, ship_frame};
 ghost use Rattle.rules.specs.Booklet.{row_at, condition_at};
-ghost use Rattle.rules.specs.Parts.{be2, part, head_at};
-ghost use Rattle.blocks.specs.BlockAnswers.{ship_read, row_read};
+ghost use Rattle.rules.specs.Parts.{part, head_at};
+ghost use Rattle.book.specs.Book.{answered, plain_ship, plain_row};
+ghost use Rattle.blocks.specs.BlockAnswers.{plain_head};
 ghost use Rattle.frames.specs.Sums.{none, plus, Bounded};
-ghost use Rattle.frames.specs.FrameAnswers.{load_read, load_fault, condition_read, condition_fault, loaded, ship_due, row_due, none_due, long_frame, long_line, long_condition};
+ghost use Rattle.frames.specs.FrameAnswers.{on_top, plain_condition, due_of};
 
-use blocks::entries::Block;
-use blocks::refusal;
-use blocks::row::{RowAnswer, RowRead};
-use blocks::ship::ShipRead;
-use blocks::weather::WeatherRead;
-use cursor::{Head, Part};
-use numbers::{both, u16_at};
+use blocks::entries::{Block, block_at};
+use blocks::frame::Frame;
+use blocks::row::row_in;
+use blocks::ship::ship_in;
+use blocks::weather::weather_at;
+use book::{Fault, Place, Refusal, Row, Ship, Sums, Weather};
+use cursor::Reader;
+
+mod long;
+
+pub use long::LongLine;
 
 // 'At most 200 items and tanks', 'at most 4 groups deep', 'at most 4,096 bytes', '2 to 40 A2'.
 const MOST_ENTRIES: u64 = 200;
 
 const MOST_DEPTH: u64 = 4;
 
-const MOST_BYTES: usize = 4_096;
+pub const MOST_BYTES: usize = 4_096;
 
-const MOST_ROWS: usize = 40;
-
-#[derive(Clone, Copy)]
-pub enum LoadRead {
-    Sum(book::Sums),
-    Refused(book::Refusal),
-}
-
-impl LoadRead {
-    // The refusal, or none.
-    fn fault(self) -> book::Refusal
-        ensures { result ≡ load_fault self }
-    {
-        match self {
-            LoadRead::Sum(_) => book::NO_REFUSAL,
-            LoadRead::Refused(r) => r,
-        }
-    }
-}
+pub const MOST_ROWS: usize = 40;
 
 // A3: the weather, and what the entries add up to.
 #[derive(Clone, Copy)]
 pub struct Condition {
-    pub weather: book::Weather,
-    pub sums: book::Sums,
-}
-
-#[derive(Clone, Copy)]
-pub enum ConditionRead {
-    Within(Condition),
-    Refused(book::Refusal),
-}
-
-impl ConditionRead {
-    // The refusal, or none.
-    pub fn fault(self) -> book::Refusal
-        ensures { result ≡ condition_fault self }
-    {
-        match self {
-            ConditionRead::Within(_) => book::NO_REFUSAL,
-            ConditionRead::Refused(r) => r,
-        }
-    }
+    pub weather: Weather,
+    pub sums: Sums,
 }
 
 // ---- the entries
-fn add(t: book::Sums, u: book::Sums) -> book::Sums
+fn add(t: Sums, u: Sums) -> Sums
     requires { Bounded t × Bounded u × (t.count + u.count ≤ most_entries) }
     ensures { result ≡ plus t u }
 {
-    book::Sums {
+    Sums {
         count: t.count + u.count,
         mass: t.mass + u.mass,
         moment: t.moment + u.moment,
@@ -85,228 +54,137 @@ fn add(t: book::Sums, u: book::Sums) -> book::Sums
     }
 }
 
-// The entries in `s`, of which the first begins at `at` of its line, on top of `t`, with so many depths left: one after the other, and those of a group, which lends its own body, before what stands after it.
-fn entries(s: &[u8], line: usize, at: usize, depth: u64, t: book::Sums) -> LoadRead
-    requires { (at + length s.now ≤ 3 + most_bytes) × Bounded t }
-    ensures { result ≡ load_read t (entries line depth (most_entries - t.count) at s.now) }
+// The entries that `reader` stands at, on top of `t`, with so many depths left: one after the other, and those of a group, which lends its own body, before what stands after it.
+fn entries(reader: Reader, depth: u64, t: Sums) -> Result<Sums, Refusal>
+    requires { (reader.place.offset + length reader.src.now ≤ 3 + most_bytes) × Bounded t }
+    ensures sums { result ≡ answered (on_top t) (entries reader.entry.place.line depth (most_entries - t.count) reader.entry.place.offset reader.entry.src.now) }
+    ensures bounded { IfOk result Bounded }
 {
     let mut sums = t;
-    let mut rest = s;
-    let mut rest_at = at;
-    while rest.len() != 0 {
-        let head = cursor::begin(rest, line, rest_at);
-        let Head::Block { tag, len } = head else {
-            return LoadRead::Refused(head.fault());
+    let mut rest = reader;
+    while !rest.is_empty() {
+        let head = rest.begins()?;
+        let body = rest.body(head.len);
+        let left = MOST_ENTRIES - sums.count;
+        sums = match block_at(head.tag, body.src, rest.place, depth, left)? {
+            Block::Entry(e) => add(sums, e),
+            Block::Group => entries(body, depth - 1, sums)?,
         };
-        let body = cursor::bytes(rest, Part::Body, len);
-        let b = blocks::entries::block_at(
-            tag,
-            body,
-            line,
-            rest_at,
-            depth,
-            MOST_ENTRIES - sums.count,
-        );
-        match b {
-            Block::Refused(r) => return LoadRead::Refused(r),
-            Block::Entry(e) => {
-                sums = add(sums, e);
-            }
-            Block::Group => {
-                let body_at = cursor::onward(rest_at, Part::Body, len);
-                let inner = entries(body, line, body_at, depth - 1, sums);
-                let LoadRead::Sum(u) = inner else {
-                    return inner;
-                };
-                sums = u;
-            }
-        }
-        let left = cursor::bytes(rest, Part::Rest, len);
-        rest = left;
-        rest_at = cursor::onward(rest_at, Part::Rest, len);
+        rest = rest.rest(head.len);
     }
-    LoadRead::Sum(sums)
+    Ok(sums)
 }
 
 // ---- the condition
 // The entries of a condition, of which one is owed: 5.
-fn load_at(s: &[u8], line: usize, at: usize) -> LoadRead
-    requires { at + length s.now ≤ 3 + most_bytes }
-    ensures { result ≡ load_read none (load_at line at s.now) }
+fn load_at(reader: Reader) -> Result<Sums, Refusal>
+    requires { reader.place.offset + length reader.src.now ≤ 3 + most_bytes }
+    ensures { result ≡ answered (on_top none) (load_at reader.entry.place.line reader.entry.place.offset reader.entry.src.now) }
 {
-    if s.len() == 0 {
-        return LoadRead::Refused(refusal(5, line, 0));
+    if reader.is_empty() {
+        return Err(Refusal::in_line(Fault::Owed, reader.place.line));
     }
-    let nothing = book::Sums {
+    let nothing = Sums {
         count: 0,
         mass: 0,
         moment: 0,
         free: 0,
     };
-    entries(s, line, at, MOST_DEPTH, nothing)
-}
-
-// The weather, and the load after it.
-fn loaded(weather: book::Weather, load: LoadRead) -> ConditionRead
-    ensures { result ≡ loaded weather load }
-{
-    let LoadRead::Sum(sums) = load else {
-        return ConditionRead::Refused(load.fault());
-    };
-    ConditionRead::Within(Condition { weather, sums })
+    entries(reader, MOST_DEPTH, nothing)
 }
 
 // Inside a condition: the weather, and the load. 5: 'A3 empty'.
-fn inside(s: &[u8], len: usize, line: usize) -> ConditionRead
-    requires { (3 + len ≤ length s.now) × (len ≤ most_bytes) }
-    ensures { result ≡ condition_read (inside line (part 3 (3 + len) s.now)) }
+fn inside(frame: Frame) -> Result<Condition, Refusal>
+    requires { frame.head.len ≤ most_bytes }
+    ensures { result ≡ answered plain_condition (inside frame.entry.line (part 3 (3 + frame.entry.head.len) frame.entry.bytes.now)) }
 {
+    let line = frame.line;
+    let len = frame.head.len;
     if len == 0 {
-        return ConditionRead::Refused(refusal(5, line, 0));
+        return Err(Refusal::in_line(Fault::Owed, line));
     }
-    let head = cursor::begin_in(s, line, 0, Part::Body, len);
-    let Head::Block { tag, len: first } = head else {
-        return ConditionRead::Refused(head.fault());
-    };
-    let body = cursor::bytes(s, Part::Body, len);
-    let body_at = cursor::onward(0, Part::Body, len);
-    let w = blocks::weather::weather_at(tag, cursor::bytes(body, Part::Body, first), line);
-    let WeatherRead::Within(weather) = w else {
-        return ConditionRead::Refused(w.fault());
-    };
-    let rest = cursor::bytes(body, Part::Rest, first);
-    let rest_at = cursor::onward(body_at, Part::Rest, first);
-    loaded(weather, load_at(rest, line, rest_at))
+    let body = Reader::new(frame.bytes, Place { line, offset: 0 }).body(len);
+    let head = body.begins()?;
+    let weather = weather_at(head.tag, body.body(head.len).src, line)?;
+    let sums = load_at(body.rest(head.len))?;
+    Ok(Condition { weather, sums })
 }
 
 // A condition whose head is read: 3, 5, and what is inside.
-fn condition_in(s: &[u8], len: usize, line: usize) -> ConditionRead
-    requires { 3 + len ≤ length s.now }
-    ensures { result ≡ condition_read (condition_in line (head_at 0xA3 len s.now)) }
+#[tactic(auto, using(rules::proofs::walk::FrameExits::condition_longer, rules::proofs::walk::FrameExits::condition_over))]
+fn condition_in(frame: Frame) -> Result<Condition, Refusal>
+    ensures { result ≡ answered plain_condition (condition_in frame.entry.line (head_at 0xA3 frame.entry.head.len frame.entry.bytes.now)) }
 {
-    if s.len() != 3 + len {
-        return ConditionRead::Refused(refusal(3, line, 0));
+    if !frame.fills_line() {
+        return Err(Refusal::in_line(Fault::WrongLength, frame.line));
     }
-    if MOST_BYTES < len {
-        return ConditionRead::Refused(refusal(5, line, 0));
+    if MOST_BYTES < frame.head.len {
+        return Err(Refusal::in_line(Fault::Owed, frame.line));
     }
-    inside(s, len, line)
+    inside(frame)
 }
 
 // ---- the frames
-// Which tag is due, the ship's or a row's with so many rows before it: 4 for any other.
-fn ship_due(tag: u8) -> bool
-    ensures { result ≡ ship_due tag }
-{
-    tag == 0xA1
+// Which tag is due: the ship's, a row's with so many rows before it, or none, behind a condition line.
+#[derive(Clone, Copy)]
+pub enum Due {
+    Ship,
+    Row(usize),
+    Nothing,
 }
 
-fn row_due(tag: u8, rows: usize) -> bool
-    ensures { result ≡ row_due rows tag }
+impl Due {
+    // 4 for any other.
+    fn is(self, tag: u8) -> bool
+        ensures { result ≡ due_of self tag }
+    {
+        match self {
+            Due::Ship => tag == 0xA1,
+            Due::Row(rows) => tag == 0xA2 && rows < MOST_ROWS,
+            Due::Nothing => false,
+        }
+    }
+}
+
+// The frame of a line, which begins at its offset 0.
+fn frame_of(s: &[u8], line: usize) -> Result<Frame, Refusal>
+    ensures head { result_map_both (λ f. f.head) (λ r. r) result ≡ answered plain_head (header line 0 s.now) }
+    ensures of { IfOk result (λ f. (f.bytes ≡ s.entry) × (f.line ≡ line)) }
 {
-    both(tag == 0xA2, rows < MOST_ROWS)
+    let head = Reader::new(s, Place { line, offset: 0 }).begins()?;
+    Ok(Frame {
+        bytes: s,
+        head,
+        line,
+    })
 }
 
 // The ship's: 2, 4, 3, 6.
-pub fn ship_frame(s: &[u8], line: usize) -> ShipRead
-    ensures { result ≡ ship_read (ship_frame line s.now) }
+pub fn ship_frame(s: &[u8], line: usize) -> Result<Ship, Refusal>
+    ensures { result ≡ answered plain_ship (ship_frame line s.now) }
 {
-    let head = cursor::begin(s, line, 0);
-    let Head::Block { tag, len } = head else {
-        return ShipRead::Refused(head.fault());
-    };
-    if ship_due(tag) {
-        return blocks::ship::ship_in(s, len, line);
+    let frame = frame_of(s, line)?;
+    if !Due::Ship.is(frame.head.tag) {
+        return Err(Refusal::in_line(Fault::NotAllowed, line));
     }
-    ShipRead::Refused(refusal(4, line, 0))
-}
-
-fn no_row(r: book::Refusal) -> RowRead
-    ensures { result ≡ row_read (refused r.number r.line r.offset) }
-{
-    RowRead {
-        answer: RowAnswer::Refused(r),
-        row: blocks::row::blank_row(),
-    }
+    ship_in(frame)
 }
 
 // One where a row is due, with so many rows before it, the last of them with W = last: 2, 4, 3, 6, 10.
-pub fn row_frame(s: &[u8], line: usize, rows: usize, last: u64) -> RowRead
-    ensures { result ≡ row_read (row_at line rows last s.now) }
+pub fn row_frame(s: &[u8], line: usize, rows: usize, last: u64) -> Result<Row, Refusal>
+    ensures { result ≡ answered plain_row (row_at line rows last s.now) }
 {
-    let head = cursor::begin(s, line, 0);
-    let Head::Block { tag, len } = head else {
-        return no_row(head.fault());
-    };
-    if row_due(tag, rows) {
-        return blocks::row::row_in(s, len, line, last);
+    let frame = frame_of(s, line)?;
+    if !Due::Row(rows).is(frame.head.tag) {
+        return Err(Refusal::in_line(Fault::NotAllowed, line));
     }
-    no_row(refusal(4, line, 0))
+    row_in(frame, last)
 }
 
 // A condition line: 2, 3, 5, and what is inside.
-pub fn condition_frame(s: &[u8], line: usize) -> ConditionRead
-    ensures { result ≡ condition_read (condition_at line s.now) }
+pub fn condition_frame(s: &[u8], line: usize) -> Result<Condition, Refusal>
+    ensures { result ≡ answered plain_condition (condition_at line s.now) }
 {
-    let head = cursor::begin(s, line, 0);
-    let Head::Block { tag: _, len } = head else {
-        return ConditionRead::Refused(head.fault());
-    };
-    condition_in(s, len, line)
-}
-
-// ---- lines of which only the front is held
-// A line of `n` bytes, more than a ship or a row has, by its head alone: 2, then 4 where the tag is not due, else 3.
-fn long_frame(head: &[u8], n: usize, line: usize, due: bool) -> book::Refusal
-    requires { 3 ≤ length head.now }
-    ensures { result ≡ long_frame line due (be2 head.now 1) n }
-{
-    if n < 3 + u16_at(head, 1) as usize {
-        return refusal(2, line, 0);
-    }
-    if due {
-        refusal(3, line, 0)
-    } else {
-        refusal(4, line, 0)
-    }
-}
-
-// Where the ship is due.
-pub fn long_ship(head: &[u8], n: usize, line: usize) -> book::Refusal
-    requires { 3 ≤ length head.now }
-    ensures { result ≡ long_line ship_due line head.now n }
-{
-    long_frame(head, n, line, ship_due(head[0]))
-}
-
-// Where a row is due, with so many rows before it.
-pub fn long_row(head: &[u8], n: usize, line: usize, rows: usize) -> book::Refusal
-    requires { 3 ≤ length head.now }
-    ensures { result ≡ long_line (row_due rows) line head.now n }
-{
-    long_frame(head, n, line, row_due(head[0], rows))
-}
-
-// Behind a condition line, where neither is due.
-pub fn long_misplaced(head: &[u8], n: usize, line: usize) -> book::Refusal
-    requires { 3 ≤ length head.now }
-    ensures { result ≡ long_line none_due line head.now n }
-{
-    long_frame(head, n, line, false)
-}
-
-// A condition line of `n` bytes, more than any may have, by its head alone: 2, 3, else 5.
-pub fn long_condition(head: &[u8], n: usize, line: usize) -> book::Refusal
-    requires { 3 ≤ length head.now }
-    ensures { result ≡ long_condition line (be2 head.now 1) n }
-{
-    let end = 3 + u16_at(head, 1) as usize;
-    if n < end {
-        return refusal(2, line, 0);
-    }
-    if n == end {
-        refusal(5, line, 0)
-    } else {
-        refusal(3, line, 0)
-    }
+    let frame = frame_of(s, line)?;
+    condition_in(frame)
 }

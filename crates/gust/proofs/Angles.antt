@@ -1,25 +1,27 @@
 -- How far the angles of criterion 8 reach where it has a net area, and the areas between them.
 use mathlib.Core.Path.{◌≡◌, ap, sym}
 use mathlib.Core.Bool.{Bool, true, false}
-use Prim.Native.Nat.{ℕ, suc, ◌+◌, ◌*◌, ◌^◌, ◌≤◌}
+use Prim.Native.Nat.{ℕ, suc, ◌+◌, ◌*◌, ◌^◌, ◌≤◌, ◌<◌}
 use native.Mathlib.Omega.{arith}
 use native.Mathlib.Nat.{mul-le-mul}
 use lib.IntN.{ℤ, pos, negsuc, neg_ℤ, nat_abs, ◌-ℤ◌, ◌*ℤ◌}
 use lib.Signed.{le_z}
+use mir.Syntax.{w64}
+use mir.Val.{SFits}
+use Rattle.rules.specs.Loading.{tenths}
 use Rattle.rules.specs.Curve.{Loaded, y, area}
 use Rattle.rules.specs.Criteria.{lw1, lw2, units, phi0}
-use Rattle.rules.specs.Roll.{phi1, start, e}
+use Rattle.rules.specs.Roll.{phi1, start, e, net}
 use Rattle.rules.specs.Ranges.{Fair}
 use Rattle.rules.proofs.rounding.Signed.{up, dn, Le, up_neg, dn_neg, up_add, dn_add}
 use Rattle.rules.proofs.criteria.Angles.{u_is, gust, e_is}
 use Rattle.curve.specs.Levers.{up_to}
 use Rattle.curve.proofs.Areas.{leeward, windward}
-use Rattle.curve.proofs.Curves.{lever_odd, fair_upright}
+use Rattle.curve.proofs.Curves.{lever_odd, fair_upright, up_to_within}
 use Rattle.roll.proofs.Angles.{angle_range}
 use Rattle.roll.proofs.Limits.{lw2_to}
 use Rattle.gust.specs.Gusts.{Blown}
-use Rattle.gust.proofs.Machine.{abs_minus, abs_mul}
-use Rattle.gust.proofs.Limits.{up_to_within}
+use Rattle.gust.proofs.Machine.{fits, abs_minus, abs_mul}
 
 module _ (c : Loaded) where
   -- ---- 'Start = phi0 if y(phi0) = lw1, else phi0 - 1; less phi1'
@@ -92,3 +94,33 @@ module _ (c : Loaded) (blown : Blown c) where
   gust_within =
       let l : 2 * (c.unit * 5_000_000 * lw2 c) ≤ 150_000_000_000_000 = far c.unit (lw2 c) blown.fair.unit (lw2_to c blown.fair) in
       rw (abs_mul (pos 2 *ℤ units c.unit (lw2 c)) (pos (e c) -ℤ start c)) (mul-le-mul l width_within)
+
+  -- ---- what the machine's signed numbers hold on the way
+  pub heel_fits : SFits w64 (pos (phi0 c) -ℤ pos (phi1 c))
+  heel_fits = fits _ (omega (arith, abs_minus (pos (phi0 c)) (pos (phi1 c)), heel_to, roll_to))
+
+  pub before_fits : SFits w64 (pos (phi0 c) -ℤ pos 1)
+  before_fits = fits _ (omega (arith, abs_minus (pos (phi0 c)) (pos 1), heel_to))
+
+  pub rolled_fits : SFits w64 (pos (phi0 c) -ℤ pos 1 -ℤ pos (phi1 c))
+  rolled_fits = fits _ (omega (arith, abs_minus (pos (phi0 c) -ℤ pos 1) (pos (phi1 c)), abs_minus (pos (phi0 c)) (pos 1), heel_to, roll_to))
+
+  pub under_fits : SFits w64 (up_to (y c) (e c) -ℤ up_to (y c) (nat_abs (start c)))
+  under_fits = rw (← area_from) (fits _ (omega (arith, area_within)))
+
+  pub width_fits : SFits w64 (pos (e c) -ℤ start c)
+  width_fits = fits _ (omega (arith, width_within))
+
+  pub twice_fits : SFits w64 (pos 2 *ℤ units tenths (lw2 c))
+  twice_fits = record { sfits = omega (arith, lw2_to c blown.fair) }
+
+  pub gust_fits : SFits w64 (pos 2 *ℤ units c.unit (lw2 c) *ℤ (pos (e c) -ℤ start c))
+  gust_fits = fits _ (omega (arith, gust_within))
+
+  pub net_is : up_to (y c) (e c) -ℤ up_to (y c) (nat_abs (start c)) -ℤ pos 2 *ℤ units c.unit (lw2 c) *ℤ (pos (e c) -ℤ start c) ≡ net c
+  unfolding net
+  net_is = rw area_from
+
+  pub net_within : nat_abs (net c) < 2 ^ 63
+  unfolding net
+  net_within = omega (arith, abs_minus (area (y c) (start c) (pos (e c))) (pos 2 *ℤ units c.unit (lw2 c) *ℤ (pos (e c) -ℤ start c)), area_within, gust_within)

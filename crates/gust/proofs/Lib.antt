@@ -1,5 +1,5 @@
 pub mod Machine
-pub mod Limits
 pub mod Eighth
 pub mod Angles
+pub mod Steps
 pub mod OneAnswer

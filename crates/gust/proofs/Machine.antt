@@ -1,14 +1,11 @@
 -- Signed numbers in the machine: a difference and a product of what is near enough to zero fits, and is what it is.
-use mathlib.Core.Path.{◌≡◌, refl, ap, ◌∙◌}
-use mathlib.Core.Bool.{true, false}
+use mathlib.Core.Path.{◌≡◌, refl}
 use Prim.Native.Nat.{ℕ, zero, suc, ◌+◌, ◌*◌, ◌^◌, ◌≤◌, ◌<◌}
 use native.Mathlib.Omega.{arith}
-use lib.Dec.{T}
-use lib.IntN.{ℤ, pos, negsuc, neg_ℤ, nat_abs, ◌-ℤ◌, ◌*ℤ◌, +ℤ_idl}
-use lib.Signed.{lt_z, non_neg}
-use borrow.Author.Tests.{ltb-true}
+use lib.IntN.{ℤ, pos, negsuc, neg_ℤ, nat_abs, ◌-ℤ◌, ◌*ℤ◌}
 use mir.Syntax.{w64}
-use mir.Val.{SFits}
+use mir.Val.{SFits, to_z, of_z}
+use mir.ValLaws.{to_z-of_z, to_z_pos}
 use Rattle.curve.proofs.Sizes.{abs_add, mag_abs}
 
 abs_neg : (a : ℤ) → nat_abs (neg_ℤ a) ≡ nat_abs a
@@ -19,24 +16,13 @@ abs_neg (negsuc n) = refl
 pub fits : (a : ℤ) → nat_abs a < 2 ^ 63 → SFits w64 a
 fits a h = record { sfits = omega (arith, mag_abs a) }
 
--- What is below zero, turned over.
-module _ (a : ℤ) (h : nat_abs a < 2 ^ 63) where
-  opposite : pos 0 -ℤ a ≡ neg_ℤ a
-  opposite = +ℤ_idl (neg_ℤ a)
+-- What is near enough is the same in the machine, there and back.
+pub seen : (a b : ℤ) → a ≡ b → nat_abs b < 2 ^ 63 → to_z w64 (of_z w64 a) ≡ b
+seen a b e h = rw e (to_z-of_z w64 b (fits b h))
 
-  pub opposite_fits : SFits w64 (pos 0 -ℤ a)
-  opposite_fits = rw opposite (fits (neg_ℤ a) (omega (arith, abs_neg a)))
-
-  pub opposite_abs : nat_abs (pos 0 -ℤ a) ≡ nat_abs a
-  opposite_abs = ap nat_abs opposite ∙ abs_neg a
-
-pub opposite_positive : (a : ℤ) → lt_z a (pos 0) ≡ true → T (non_neg (pos 0 -ℤ a))
-opposite_positive (pos n) e = absurd (omega (arith, ltb-true n 0 e))
-opposite_positive (negsuc n) e = tt
-
-pub positive : (a : ℤ) → lt_z a (pos 0) ≡ false → T (non_neg a)
-positive (pos n) e = tt
-positive (negsuc n) e = absurd (let z : ◌≡◌ {A = ℕ} 0 1 = cc in omega arith)
+-- A number without a sign, as one with.
+pub counted : (n m : ℕ) → n ≡ m → m < 2 ^ 63 → to_z w64 n ≡ pos m
+counted n m e h = rw e (to_z_pos w64 m h)
 
 pub abs_minus : (a b : ℤ) → nat_abs (a -ℤ b) ≤ nat_abs a + nat_abs b
 abs_minus a b = omega (arith, abs_add a (neg_ℤ b), abs_neg b)

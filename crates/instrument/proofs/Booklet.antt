@@ -5,10 +5,11 @@ use mathlib.Core.List.{List, [], ◌∷◌, ◌++◌, map, append_assoc, append-
 use Prim.Native.Nat.{ℕ, zero, suc, ◌+◌, ◌-◌, ◌*◌, ◌≤◌, ◌<◌}
 use native.Mathlib.Omega.{arith}
 use lib.Dec.{eqb}
-use lib.ListN.{length, take, drop, get_or, length-append, length-drop, take-append-drop}
+use lib.ListN.{length, length-map, take, drop, get_or, length-append, length-drop, take-append-drop}
+use Rattle.std.proofs.lemmas.List.{nil_from_length}
 use lib.Seq.{drop-drop, drop-append_seam, take-append_seam, length-take-le, drop-length}
 use borrow.Author.Tests.{eqb-true}
-use Rattle.rules.specs.Layout.{most_rows, most_characters, Booklet}
+use Rattle.rules.specs.Layout.{most_characters, Booklet}
 use Rattle.rules.specs.Outcome.{Ans, got}
 use Rattle.rules.specs.Walk.{lines_from}
 use Rattle.rules.specs.Booklet.{condition_at}
@@ -17,18 +18,19 @@ use Rattle.rules.specs.Parts.{part}
 use Rattle.rules.specs.Report.{Judgement, concat, report_length}
 use Rattle.rules.specs.Answer.{number_of, report_of, answer_of_line, answers_from, answers, first_number}
 use Rattle.rules.proofs.layout.Parts.{part_end, length_part}
-use Rattle.rules.proofs.booklet.WholeText.{sound}
 use Rattle.rules.proofs.booklet.Reports.{answer_length}
 use Rattle.rules.proofs.booklet.Readings.{reading_limits}
+use Rattle.rules.proofs.booklet.Conditions.{answer_refusal}
+use Rattle.rules.proofs.walk.Refusals.{Refusal, weaker}
 use Rattle.rules.proofs.booklet.PlaceFits.{line_fits}
-use Rattle.book.specs.Book.{table_of}
-use Rattle.book.specs.declared.Table.{Table}
+use Rattle.book.specs.declared.Row as plain
 use Rattle.reading.specs.TextAnswers.{condition_line}
 use Rattle.reading.specs.declared.ConditionLine.{ConditionLine}
 use Rattle.reading.specs.declared.Front.{Front}
 use Rattle.reading.proofs.ConditionLines.{FirstLine, first_line_lem, no_more}
 use Rattle.reading.proofs.FrontCharacters.{conditions_behind, front_within}
-use Rattle.instrument.specs.Sent.{Sent, LineSays, Opens}
+use Rattle.instrument.specs.Sent.{LineSays, Opens}
+use Rattle.instrument.proofs.Sending.{Sends}
 
 -- The reports of these lines, of which the first has the number ln, over a buffer.
 abbrev reported : Booklet → ℕ → List (List ℕ) → List ℕ → List ℕ
@@ -97,21 +99,19 @@ first_one a more n m e = rw e (go (eqb n 0) refl)
     go false p = rw p
 
 -- A text is read as one booklet only.
-pub one_booklet : {b d : Booklet} {t : List ℕ} {front front' : Front} {table table' : Table} → Opens b t front table → Opens d t front' table' → b ≡ d
+pub one_booklet : {b d : Booklet} {t : List ℕ} {front front' : Front} → Opens b t front → Opens d t front' → b ≡ d
 one_booklet O O' = let p = O.read in let q = O'.read in cc
 
-module _ (b : Booklet) (t : List ℕ) (front : Front) (table : Table) (O : Opens b t front table) (before : List ℕ) where
+module _ (b : Booklet) (t : List ℕ) (front : Front) (O : Opens b t front) (before : List ℕ) where
   -- ---- the first line
   pub start_within : front.at ≤ length t
-  start_within = omega (arith, ap (λ (f : Front). f.at) O.opening, front_within most_characters t b O.read)
+  start_within = omega (arith, O.begins, front_within most_characters t b O.read)
 
-  pub count_small : table.count ≤ most_rows
-  unfolding table_of
-  count_small = omega (arith, ap (λ (y : Table). y.count) O.rows, (sound most_characters t b O.read).0.many)
+  pub counted : length front.rows.items ≡ length b.rows
+  counted = ap length O.table ∙ simp length-map refl
 
-  pub going_start : report_length * length b.conditions ≤ length before → Going b before (part front.at (length t) t) (2 + table.count) 0 0 before
-  unfolding table_of
-  going_start h = rw (O.opening, O.rows) (record {
+  pub going_start : report_length * length b.conditions ≤ length before → Going b before (part front.at (length t) t) (2 + length front.rows.items) 0 0 before
+  going_start h = rw (O.begins, counted) (record {
     done = 0;
     left = b.conditions;
     lines = ap (lines_from (2 + length b.rows)) (part_end t _) ∙ conditions_behind most_characters t b O.read;
@@ -142,27 +142,31 @@ module _ (b : Booklet) (t : List ℕ) (front : Front) (table : Table) (O : Opens
     pub line_small : line < 65_536
     line_small = let f = line_fits most_characters t b O.read g.done here.1 in omega (arith, g.place)
 
+    -- Its report has room for what is sent back.
+    pub sends : Refusal Sends (answer_of_line b.ship b.rows line first.line)
+    sends = weaker (λ n m o h. (omega (arith, h.0), omega (arith, h.1), omega (arith, h.2, line_small), omega (arith, h.3))) (answer_refusal b.ship b.rows line first.line)
+
     -- It is a condition line of this ship and these rows.
-    pub says : (c : ConditionLine) → c ≡ condition_line line rest → LineSays b.ship b.rows line first.line front.ship c.read table
-    says c e = record {
+    pub says : (rs : List plain.Row) → rs ≡ front.rows.items → (c : ConditionLine) → c ≡ condition_line line rest → LineSays b.ship b.rows line first.line front.ship c.read rs
+    says rs q c e = record {
       limits = λ d q. reading_limits most_characters t b O.read (omega arith) g.done here.1 line d (ap (condition_at line) here.0 ∙ q);
-      hull = ap (λ (f : Front). f.ship) O.opening;
+      hull = O.hull;
       line = ap (λ (c : ConditionLine). c.read) (e ∙ first.read);
-      rows = O.rows;
+      table = q ∙ O.table;
       fits = line_small;
     }
 
     pub taken_within : (c : ConditionLine) → c ≡ condition_line line rest → (0 < c.taken) × (c.taken ≤ length rest)
     taken_within c e = let q = ap (λ (c : ConditionLine). c.taken) (e ∙ first.read) in omega (arith, first.within)
 
-    pub going_next : (c : ConditionLine) → c ≡ condition_line line rest → {m : ℕ} {put : List ℕ} → Sent (answer_of_line b.ship b.rows line first.line) (part at (at + report_length) report) m put
+    pub going_next : (c : ConditionLine) → c ≡ condition_line line rest → {m : ℕ} {put : List ℕ} → m ≡ number_of (answer_of_line b.ship b.rows line first.line) → put ≡ report_of (answer_of_line b.ship b.rows line first.line) ++ drop report_length (part at (at + report_length) report)
         → Going b before (part c.taken (length rest) rest) (line + 1) (at + report_length) (cond (eqb number 0) m number) (take at report ++ (put ++ drop (at + report_length - at) (drop at report)))
     unfolding answers_from concat
-    going_next c e {m} {put} s =
+    going_next c e {m} {put} N R =
         let a = answer_of_line b.ship b.rows line first.line in
         let z = answer_length b.ship b.rows line first.line in
         let p : length (part at (at + report_length) report) ≡ report_length = length_part report at (at + report_length) room_here ∙ omega arith in
-        let w : put ≡ report_of a = s.reported ∙ ap (report_of a ++◌) (drop_whole (part at (at + report_length) report) p) ∙ append-nil (report_of a) in
+        let w : put ≡ report_of a = R ∙ ap (report_of a ++◌) (drop_whole (part at (at + report_length) report) p) ∙ append-nil (report_of a) in
         let n = ap length first.both in
         let k = ap (λ (c : ConditionLine). c.taken) (e ∙ first.read) in
         let y : at + report_length - at ≡ report_length = omega arith in
@@ -174,7 +178,7 @@ module _ (b : Booklet) (t : List ℕ) (front : Front) (table : Table) (O : Opens
           counted = omega (arith, g.counted);
           place = omega (arith, g.place);
           stands = omega (arith, g.stands);
-          numbers = g.numbers ∙ ap (λ ls. numbered b line ls number) first.both ∙ first_one a _ number m s.numbered;
+          numbers = g.numbers ∙ ap (λ ls. numbered b line ls number) first.both ∙ first_one a _ number m N;
           reports = g.reports ∙ ap (λ ls. take at report ++ reported b line ls (drop at report)) first.both ∙ moved_on (report_of a) z;
           room = let x = put_length report (report_of a) at room_here z in omega (arith, g.room);
           same = put_length report (report_of a) at room_here z ∙ g.same;
@@ -192,11 +196,19 @@ module _ (b : Booklet) (t : List ℕ) (front : Front) (table : Table) (O : Opens
             rw (put_front report r at room_here h, put_behind report r at room_here h, d)
             (ap (take at report ++◌) (append_assoc r more _) ∙ sym (append_assoc (take at report) r (more ++ drop (report_length * length first.others) (drop report_length (drop at report)))))
 
+  -- Where one is left, the text goes on.
+  pub goes_on : {rest report : List ℕ} {line at number : ℕ} (g : Going b before rest line at number report) → 0 < length g.left → 0 < length rest
+  goes_on {rest} {line = line} g some = go (length rest) refl
+    where
+      go : (n : ℕ) → length rest ≡ n → 0 < length rest
+      go zero e = absurd (omega (arith, ap length (no_more line g.left rest g.lines e)))
+      go (suc n) e = omega arith
+
   -- ---- the last line
-  pub going_end : {rest report : List ℕ} {line at number : ℕ} → Going b before rest line at number report → length rest ≡ 0 → (number ≡ first_number (answers b)) × (report ≡ reported b (2 + length b.rows) b.conditions before)
+  pub going_end : {rest report : List ℕ} {line at number : ℕ} → (g : Going b before rest line at number report) → length g.left ≡ 0 → (number ≡ first_number (answers b)) × (report ≡ reported b (2 + length b.rows) b.conditions before)
   unfolding answers_from concat first_number
   going_end {rest} {report} {line} {at} {number} g h =
-      let none : g.left ≡ [] = no_more line g.left rest g.lines h in (
+      let none : g.left ≡ [] = nil_from_length g.left h in (
         sym (g.numbers ∙ ap (λ ls. numbered b line ls number) none ∙ last (eqb number 0) refl),
         sym (g.reports ∙ ap (λ ls. take at report ++ reported b line ls (drop at report)) none ∙ take-append-drop at report),
       )

@@ -1,5 +1,5 @@
-pub mod Joined
-pub mod OfLine
+pub mod Judging
+pub mod Sending
 pub mod Booklet
 pub mod Rooms
 pub mod Numbered

@@ -53,6 +53,7 @@ use Rattle.instrument.specs.Outside.{Outside, TooHigh, Neither}
 use Rattle.instrument.specs.OneTag.{OtherTagIn}
 pub use Rattle.instrument.proofs.Runs.{Judges, contract}
 use Rattle.instrument.proofs.Runs.{lent, lent_out}
+use Rattle.instrument.proofs.Rooms.{reply_within}
 use Rattle.instrument.proofs.judge_within.Reads as within
 use Rattle.instrument.proofs.room.Reads as asks
 use Rattle.instrument.proofs.Replies as replies
@@ -492,12 +493,12 @@ abbrev pub JudgesWithin : List ℕ → ℕ → List ℕ → ℕ → ℕ → List
 JudgesWithin text limit before n bytes after = (κs : _) × (a : _) × (r : _) × (s : _) × within.Post κs a r s
     × (a.0.now ≡ text) × (a.1.0 ≡ limit) × (a.1.1.0.now ≡ before) × (r.number ≡ n) × (r.length ≡ bytes) × (s.1.1.0.now ≡ after)
 
--- That is the three equations of the contract, no more and no less.
+-- That is the three equations of the contract, no more and no less: that the bytes lie in the buffer follows from them.
 pub within_contract : (text : List ℕ) (limit : ℕ) (before : List ℕ) (n bytes : ℕ) (after : List ℕ)
     → JudgesWithin text limit before n bytes after ↔ ((n ≡ number (limited limit) text before) × (bytes ≡ bytes_sent (limited limit) text before) × (after ≡ written (limited limit) text before))
 within_contract text limit before n bytes after = (
-  λ run. let p = run.4 in rw (← run.5, ← run.6, ← run.7, ← run.8, ← run.9, ← run.10) (p.0, p.1.0, p.1.1),
-  λ x. (([], ([], tt)), (lent text, (limit, (lent_out before, tt))), record { number = n; length = bytes }, (lent text, (limit, (lent_out after, tt))), (x.0, (x.1, x.2)), refl, refl, refl, refl, refl, refl),
+  λ run. let p = run.4 in rw (← run.5, ← run.6, ← run.7, ← run.8, ← run.9, ← run.10) (p.0, p.1.0, p.1.1.0),
+  λ x. (([], ([], tt)), (lent text, (limit, (lent_out before, tt))), record { number = n; length = bytes }, (lent text, (limit, (lent_out after, tt))), (x.0, (x.1, (x.2, reply_within limit text before after (x.0, (x.1, x.2))))), refl, refl, refl, refl, refl, refl),
 )
 
 module _ (text : List ℕ) (limit : ℕ) (before : List ℕ) (n bytes : ℕ) (after : List ℕ) (run : JudgesWithin text limit before n bytes after) where

@@ -1,72 +1,61 @@
--- What is sent back with room for it: of one answer, of a condition, of a condition line and of all conditions of a booklet; and when plain data is that of a reading.
-use Rattle.std.specs.Prelude.{◌≡◌, List, ◌++◌, map, ℕ, ◌*◌, ◌≤◌, ◌<◌, length, drop}
+-- What is sent back with room for it: of one answer, of a condition line and of all conditions of a booklet; and when plain data is that of a reading.
+use Rattle.std.specs.Prelude.{◌≡◌, List, ◌++◌, map, ℕ, ◌*◌, ◌≤◌, ◌<◌, length, drop, Option, Some, None, Result, Ok, Err}
 use Rattle.rules.specs.Blocks.{Row}
 use Rattle.rules.specs.Blocks as rules
-use Rattle.rules.specs.Layout.{Condition, Reading, most_characters, Limits, Booklet}
-use Rattle.rules.specs.Outcome.{Ans, got}
+use Rattle.rules.specs.Layout.{Condition, most_characters, Limits, Booklet}
+use Rattle.rules.specs.Outcome.{got}
 use Rattle.rules.specs.Booklet.{read_whole, condition_at}
-use Rattle.rules.specs.Report.{Judgement, concat, report_length}
-use Rattle.rules.specs.Answer.{judged, number_of, report_of, answer_of_line, answers, first_number}
-use Rattle.book.specs.Book.{plain_ship, table_of, judgement_of}
+use Rattle.rules.specs.Report.{concat, report_length}
+use Rattle.rules.specs.Answer.{report_of, answer_of_line, answers, first_number}
+use Rattle.book.specs.Book.{plain_ship, plain_row, judgement_of, answered, fault_number}
+use Rattle.book.specs.declared.Fault.{Fault}
 use Rattle.book.specs.declared.Ship.{Ship}
-use Rattle.book.specs.declared.Table.{Table}
-use Rattle.book.specs.declared.Judgement as plain
-use Rattle.frames.specs.FrameAnswers.{plain_condition, condition_read}
-use Rattle.frames.specs.declared.Condition as plain'
-use Rattle.frames.specs.declared.ConditionRead.{ConditionRead}
+use Rattle.book.specs.declared.Row as plain
+use Rattle.book.specs.declared.Refusal.{Refusal}
+use Rattle.book.specs.declared.Judgement as plain'
+use Rattle.frames.specs.FrameAnswers.{plain_condition}
+use Rattle.frames.specs.declared.Condition as plain''
 use Rattle.reading.specs.TextAnswers.{front_characters}
 use Rattle.reading.specs.declared.Front.{Front}
 
 -- ---- one answer
--- The number and the buffer at the end: 'Bytes beyond those written keep their values.'
-pub record Sent (a : Ans Judgement) (before : List ℕ) (number : ℕ) (after : List ℕ) : Type 0 where
-  pub numbered : number ≡ number_of a
-  pub reported : after ≡ report_of a ++ drop report_length before
+-- The fault of a refusal; none of a judgement.
+abbrev pub fault_in : Result plain'.Judgement Refusal → Option Fault
+fault_in (Ok j) = None
+fault_in (Err r) = Some r.fault
 
--- What is sent back for a judgement as plain data.
-abbrev pub SentJudged : plain.Judgement → List ℕ → ℕ → List ℕ → Type 0
-SentJudged p before number after = (j : Judgement) → p ≡ judgement_of j → Sent (got j) before number after
-
--- ---- a condition
--- What was read is this reading, within its limits, as plain data.
-pub record Says (r : Reading) (ship : Ship) (condition : plain'.Condition) (table : Table) : Type 0 where
-  pub limits : Limits r
-  pub hull : ship ≡ plain_ship r.ship
-  pub load : condition ≡ plain_condition r.condition
-  pub rows : table ≡ table_of r.rows
-
--- There is such a reading.
-abbrev pub OfReading : Ship → plain'.Condition → Table → Type 0
-OfReading ship condition table = (r : Reading) × Says r ship condition table
-
-abbrev pub SentCondition : Ship → plain'.Condition → Table → List ℕ → ℕ → List ℕ → Type 0
-SentCondition ship condition table before number after = (r : Reading) → Says r ship condition table → Sent (judged r) before number after
+-- 0 where there is none, else the paper's number.
+abbrev pub number_sent : Option Fault → ℕ
+number_sent None = 0
+number_sent (Some f) = fault_number f
 
 -- ---- a condition line
 -- The line l with the number ln, of a booklet with this ship and these rows, as plain data. What it says is within the limits, and its number fits the report's two bytes.
-pub record LineSays (s : rules.Ship) (vs : List Row) (ln : ℕ) (l : List ℕ) (ship : Ship) (read : ConditionRead) (table : Table) : Type 0 where
+pub record LineSays (s : rules.Ship) (vs : List Row) (ln : ℕ) (l : List ℕ) (ship : Ship) (read : Result plain''.Condition Refusal) (rows : List plain.Row) : Type 0 where
   pub limits : (c : Condition) → condition_at ln l ≡ got c → Limits (record { ship = s; rows = vs; condition = c })
   pub hull : ship ≡ plain_ship s
-  pub line : read ≡ condition_read (condition_at ln l)
-  pub rows : table ≡ table_of vs
+  pub line : read ≡ answered plain_condition (condition_at ln l)
+  pub table : rows ≡ map plain_row vs
   pub fits : ln < 65_536
 
-abbrev pub OfLine : Ship → ConditionRead → Table → Type 0
-OfLine ship read table = (s : rules.Ship) × (vs : List Row) × (ln : ℕ) × (l : List ℕ) × LineSays s vs ln l ship read table
+abbrev pub OfLine : Ship → Result plain''.Condition Refusal → List plain.Row → Type 0
+OfLine ship read rows = (s : rules.Ship) × (vs : List Row) × (ln : ℕ) × (l : List ℕ) × LineSays s vs ln l ship read rows
 
-abbrev pub SentLine : Ship → ConditionRead → Table → List ℕ → ℕ → List ℕ → Type 0
-SentLine ship read table before number after = (s : rules.Ship) (vs : List Row) (ln : ℕ) (l : List ℕ) → LineSays s vs ln l ship read table → Sent (answer_of_line s vs ln l) before number after
+-- What is judged of it, or the refusal.
+abbrev pub Judged : Ship → Result plain''.Condition Refusal → List plain.Row → Result plain'.Judgement Refusal → Type 0
+Judged ship read rows a = (s : rules.Ship) (vs : List Row) (ln : ℕ) (l : List ℕ) → LineSays s vs ln l ship read rows → a ≡ answered judgement_of (answer_of_line s vs ln l)
 
 -- ---- all conditions
--- The text t is read as the booklet b, of which the front and the table are plain data.
-pub record Opens (b : Booklet) (t : List ℕ) (front : Front) (table : Table) : Type 0 where
+-- The text t is read as the booklet b, of which the front is plain data.
+pub record Opens (b : Booklet) (t : List ℕ) (front : Front) : Type 0 where
   pub read : read_whole most_characters t ≡ got b
-  pub opening : front ≡ record { ship = plain_ship b.ship; at = front_characters (length b.rows) }
-  pub rows : table ≡ table_of b.rows
+  pub hull : front.ship ≡ plain_ship b.ship
+  pub table : front.rows.items ≡ map plain_row b.rows
+  pub begins : front.at ≡ front_characters (length b.rows)
 
 -- There is room for its reports.
-abbrev pub OfBooklet : List ℕ → Front → Table → List ℕ → Type 0
-OfBooklet t front table before = (b : Booklet) × Opens b t front table × (report_length * length b.conditions ≤ length before)
+abbrev pub OfBooklet : List ℕ → Front → ℕ → List ℕ → Type 0
+OfBooklet t front k before = (b : Booklet) × Opens b t front × (k ≡ length b.conditions) × (report_length * k ≤ length before)
 
-abbrev pub SentAll : List ℕ → Front → Table → List ℕ → ℕ → List ℕ → Type 0
-SentAll t front table before number after = (b : Booklet) → Opens b t front table → (number ≡ first_number (answers b)) × (after ≡ concat (map report_of (answers b)) ++ drop (report_length * length b.conditions) before)
+abbrev pub SentAll : List ℕ → Front → List ℕ → Option Fault → List ℕ → Type 0
+SentAll t front before first after = (b : Booklet) → Opens b t front → (number_sent first ≡ first_number (answers b)) × (after ≡ concat (map report_of (answers b)) ++ drop (report_length * length b.conditions) before)

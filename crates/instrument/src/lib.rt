@@ -1,17 +1,16 @@
 // The instrument: one text in, one report line out for each of its conditions. Every text of every length is answered, and no caller is asked to have looked first.
 #![tactic(auto)]
 
-ghost use Rattle.std.specs.Prelude.{◌≡◌, cond, ◌≤◌, ◌<◌, eqb, length};
-ghost use Rattle.rules.specs.Outcome.{refused};
+ghost use Rattle.std.specs.Prelude.{◌≡◌, ◌++◌, ◌≤◌, ◌<◌, length, drop};
 ghost use Rattle.rules.specs.Layout.{most_characters};
-ghost use Rattle.rules.specs.Report.{no_judgement, report_length};
+ghost use Rattle.rules.specs.Report.{report_length};
 ghost use Rattle.rules.specs.Answer.{number, bytes_sent, written, room, limited};
-ghost use Rattle.book.specs.Book.{judgement_of};
-ghost use Rattle.instrument.specs.Sent.{Sent, SentJudged, OfReading, SentCondition, OfLine, SentLine, OfBooklet, SentAll};
+ghost use Rattle.std.specs.Result.{ForErr};
+ghost use Rattle.report.specs.Said.{said};
+ghost use Rattle.instrument.specs.Sent.{fault_in, number_sent, OfLine, Judged, OfBooklet, SentAll};
 
-use book::{Judgement, Refusal};
-use frames::{Condition, ConditionRead};
-use numbers::least;
+use book::{Fault, Judgement, Refusal, Row, Ship};
+use frames::Condition;
 use reading::Front;
 
 // 'The report is .. 209 characters.'
@@ -20,96 +19,65 @@ const REPORT: usize = 209;
 // 'The library takes up to 180,000 characters.'
 const MOST_CHARACTERS: usize = 180_000;
 
-// 'On refusals 1 to 8 verdicts are 3 and figures 0', and likewise on 10.
-fn no_judgement() -> Judgement
-    ensures { result ≡ judgement_of no_judgement }
+// What a condition line says is weighed, loaded and judged, or refused: for itself, or with 7 or 8.
+fn judged(ship: Ship, read: Result<Condition, Refusal>, rows: &[Row]) -> Result<Judgement, Refusal>
+    requires { OfLine ship read rows.now }
+    ensures { Judged ship read rows.now result }
 {
-    Judgement {
-        verdicts: [3; 8],
-        figures: [0; 11],
+    let condition = read?;
+    let weight = curve::loading::weigh(condition.sums, rows)?;
+    let loaded = curve::table::loaded(ship, condition.weather, rows, weight);
+    Ok(criteria::judge(loaded))
+}
+
+// An answer is its report and, where it is a refusal, the fault.
+fn send(answer: Result<Judgement, Refusal>, report: &mut [u8]) -> Option<Fault>
+    requires report_length_in_bounds { report_length ≤ length report.old }
+    requires line_bound { ForErr answer (λ refusal. (refusal.place.line < 65536) × (refusal.place.offset < 65536)) }
+    ensures fault { result ≡ fault_in answer }
+    ensures report_after { report.new ≡ said answer ++ drop report_length report.old }
+{
+    report::write(report, answer);
+    match answer {
+        Ok(_) => None,
+        Err(refusal) => Some(refusal.fault),
     }
 }
 
-// A refusal is its report and its number.
-fn refuse(refusal: Refusal, report: &mut [u8]) -> u8
-    requires report_length_in_bounds { report_length ≤ length report.old }
-    requires line_bound { (refusal.line < 65536) × (refusal.offset < 65536) }
-    ensures { Sent (refused refusal.number refusal.line refusal.offset) report.old result report.new }
-{
-    report::write(report, refusal, no_judgement());
-    refusal.number
-}
-
-// A judgement is its report, and no refusal.
-fn send(judgement: Judgement, report: &mut [u8]) -> u8
-    requires { report_length ≤ length report.old }
-    ensures { SentJudged judgement report.old result report.new }
-{
-    report::write(report, book::NO_REFUSAL, judgement);
-    0
-}
-
-// What a condition says is weighed, loaded and judged.
-fn judge_condition(
-    ship: book::Ship,
-    condition: Condition,
-    table: book::Table,
+// 'One report line per condition, in order': the first fault among them, if there is one.
+fn judge_conditions(
+    text: &[u8],
+    front: &Front,
+    conditions: usize,
     report: &mut [u8],
-) -> u8
-    requires report_length_in_bounds { report_length ≤ length report.old }
-    requires of_reading { OfReading ship condition table }
-    ensures { SentCondition ship condition table report.old result report.new }
-{
-    let weighed = curve::loading::weigh(condition.sums, table);
-    let curve::loading::Weighed::Fine { w, kg } = weighed else {
-        return refuse(weighed.fault(), report);
-    };
-    let loaded = curve::table::loaded(ship, condition.weather, table, w, kg);
-    send(criteria::judge(loaded), report)
-}
-
-// A condition line is refused for itself, or judged.
-fn judge_line(ship: book::Ship, read: ConditionRead, table: book::Table, report: &mut [u8]) -> u8
-    requires report_length_in_bounds { report_length ≤ length report.old }
-    requires of_line { OfLine ship read table }
-    ensures { SentLine ship read table report.old result report.new }
-{
-    let ConditionRead::Within(condition) = read else {
-        return refuse(read.fault(), report);
-    };
-    judge_condition(ship, condition, table, report)
-}
-
-// The first number that is not 0.
-fn first_number(first: u8, next: u8) -> u8
-    ensures { result ≡ cond (eqb first 0) next first }
-{
-    if first == 0 { next } else { first }
-}
-
-// 'One report line per condition, in order.'
-fn judge_conditions(text: &[u8], front: Front, table: book::Table, report: &mut [u8]) -> u8
-    requires { OfBooklet text.now front table report.old }
-    ensures { SentAll text.now front table report.old result report.new }
+) -> Option<Fault>
+    requires { OfBooklet text.now front.now conditions report.old }
+    ensures { SentAll text.now front.now report.old result report.new }
 {
     let mut bytes = [0u8; reading::CONDITION_BYTES];
-    let start = front.at;
-    let ship = front.ship;
-    let mut rest = &text[start..];
-    let mut line = 2 + table.count;
-    let mut at = 0;
-    let mut number = 0;
-    while rest.len() != 0 {
-        let c = reading::read_condition(rest, line, &mut bytes);
-        let read = c.read;
-        let taken = c.taken;
-        let next = judge_line(ship, read, table, &mut report[at..at + REPORT]);
-        number = first_number(number, next);
-        rest = &rest[taken..];
-        line = line + 1;
-        at = at + REPORT;
+    let rows = front.rows.as_slice();
+    let mut rest = &text[front.at..];
+    let mut first = None;
+    for k in 0..conditions {
+        let line = 2 + rows.len() + k;
+        let at = REPORT * k;
+        let condition = reading::read_condition(rest, line, &mut bytes);
+        let answer = judged(front.ship, condition.read, rows);
+        let fault = send(answer, &mut report[at..at + REPORT]);
+        first = first.or(fault);
+        rest = &rest[condition.taken..];
     }
-    number
+    first
+}
+
+// 0 where every condition is judged, else the number of the first fault.
+fn number_sent(first: Option<Fault>) -> u8
+    ensures { result ≡ number_sent first }
+{
+    match first {
+        Some(fault) => u8::from(fault),
+        None => 0,
+    }
 }
 
 // What is sent back: the number of document 01 and request 4 (0 to 10), and how many bytes of the buffer are written.
@@ -119,38 +87,36 @@ pub struct Reply {
     pub length: usize,
 }
 
+// 9, with nothing written.
+const NO_ROOM: Reply = Reply {
+    number: Fault::NoRoom as u8,
+    length: 0,
+};
+
 // `judge` with a limit of one's own, where that is less than the library's.
 pub fn judge_within(text: &[u8], limit: usize, report: &mut [u8]) -> Reply
     ensures number_value { result.number ≡ number (limited limit) text.now report.old }
     ensures length_value { result.length ≡ bytes_sent (limited limit) text.now report.old }
     ensures report_after { report.new ≡ written (limited limit) text.now report.old }
+    ensures within_buffer { result.length ≤ length report.old }
 {
     if report.len() < REPORT {
-        return Reply {
-            number: 9,
-            length: 0,
-        };
+        return NO_ROOM;
     }
-    let most = least(limit, MOST_CHARACTERS);
-    let read = reading::read_text(text, most);
+    let read = reading::read_text(text, limit.min(MOST_CHARACTERS));
     let conditions = read.conditions;
     if report.len() < REPORT * conditions {
-        return Reply {
-            number: 9,
-            length: 0,
-        };
+        return NO_ROOM;
     }
-    let answer = read.answer;
-    let table = read.table;
-    let reading::Answer::Whole(front) = answer else {
-        return Reply {
-            number: refuse(answer.fault(), report),
+    match read.front {
+        Ok(front) => Reply {
+            number: number_sent(judge_conditions(text, &front, conditions, report)),
+            length: REPORT * conditions,
+        },
+        Err(refusal) => Reply {
+            number: number_sent(send(Err(refusal), report)),
             length: REPORT,
-        };
-    };
-    Reply {
-        number: judge_conditions(text, front, table, report),
-        length: REPORT * conditions,
+        },
     }
 }
 
@@ -162,30 +128,10 @@ pub fn judge(text: &[u8], report: &mut [u8]) -> u8
     judge_within(text, MOST_CHARACTERS, report).number
 }
 
-// How many bytes of report a text asks room for.
+// How many bytes of report a text asks room for: one line at least.
 pub fn room(text: &[u8]) -> usize
     ensures { result ≡ room most_characters text.now }
 {
-    let conditions = reading::read_text(text, MOST_CHARACTERS).conditions;
-    if conditions == 0 {
-        REPORT
-    } else {
-        REPORT * conditions
-    }
-}
-
-// `judge` and `room`, for C and Rust to call.
-#[unsafe(no_mangle)]
-pub extern "C" fn rostblume_judge(text: &[u8], report: &mut [u8]) -> u8
-    ensures value { result ≡ number most_characters text.now report.old }
-    ensures report_after { report.new ≡ written most_characters text.now report.old }
-{
-    judge(text, report)
-}
-
-#[unsafe(no_mangle)]
-pub extern "C" fn rostblume_room(text: &[u8]) -> usize
-    ensures { result ≡ room most_characters text.now }
-{
-    room(text)
+    let read = reading::read_text(text, MOST_CHARACTERS);
+    REPORT * read.conditions.max(1)
 }

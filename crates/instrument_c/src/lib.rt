@@ -1,4 +1,4 @@
-// The instrument for C and Rust to call: the archive's two functions, thin over the library's of the same names, and with their clauses.
+// The instrument for C and Rust to call: the archive's two functions, thin over the library's `judge` and `room`, with their clauses.
 #![tactic(auto)]
 
 ghost use Rattle.std.specs.Prelude.{◌≡◌};
@@ -11,7 +11,7 @@ pub extern "C" fn rostblume_judge(text: &[u8], report: &mut [u8]) -> u8
     ensures value { result ≡ number most_characters text.now report.old }
     ensures report_after { report.new ≡ written most_characters text.now report.old }
 {
-    instrument::rostblume_judge(text, report)
+    instrument::judge(text, report)
 }
 
 // `room`: how many bytes of report a text asks room for.
@@ -19,5 +19,5 @@ pub extern "C" fn rostblume_judge(text: &[u8], report: &mut [u8]) -> u8
 pub extern "C" fn rostblume_room(text: &[u8]) -> usize
     ensures { result ≡ room most_characters text.now }
 {
-    instrument::rostblume_room(text)
+    instrument::room(text)
 }

@@ -4,7 +4,7 @@ use borrow.Rule.Slice.PartMut.{put_mid}
 use Rattle.rules.specs.Numbers.{digits, twos}
 use Rattle.rules.specs.Blocks.{block}
 use Rattle.rules.specs.Report.{concat, report_tag, report_body}
-use Rattle.report.specs.Head.{frame_head}
+use Rattle.report.specs.Said.{frame_head}
 use Rattle.report.proofs.Parts.{lent}
 use Rattle.rules.proofs.answer.Length.{body_length}
 

@@ -1,5 +1,5 @@
+pub mod Answer
 pub mod Digits
-pub mod Below
 pub mod Parts
 pub mod Frame
 pub mod OneAnswer

@@ -1,5 +1,5 @@
 -- A buffer that is written from its front on, part after part: each part is lent to its writer and comes back written.
-use Rattle.std.proofs.Common.{◌≡◌, ℕ, suc, ◌+◌, ◌-◌, ◌*◌, ◌<◌, ◌≤◌, List, [], ◌∷◌, ◌++◌, map, length, get_or, take, drop, set, sym, refl, ap, ◌∙◌, append_assoc, append-nil, add-one, arith, length-append, length-drop, length-take-le, take_all, drop-cons, take-suc, drop-drop, take_at, drop_at}
+use Rattle.std.proofs.Common.{◌≡◌, ℕ, suc, ◌+◌, ◌-◌, ◌*◌, ◌<◌, ◌≤◌, List, [], ◌∷◌, ◌++◌, map, length, get_or, take, drop, set, sym, refl, ap, ◌∙◌, append_assoc, append-nil, add-one, arith, length-take-le, take_all, drop-cons, take-suc, drop-drop, take_at, drop_at}
 use lib.Seq.{set_at, append_snoc}
 use borrow.Rule.Slice.PartMut.{put_mid}
 use Rattle.rules.specs.Text.{hex}
@@ -32,9 +32,6 @@ module _ {A : Type 0} (f : A → List ℕ) (m : ℕ) (size : (x : A) → length 
 
   part_length : (k : ℕ) → k ≤ length xs → length (concat (map f (take k xs))) ≡ m * k
   part_length k h = concat_length f m size (take k xs) ∙ ap (m *◌) (length-take-le k xs h)
-
-  pub written_length : (k : ℕ) → k ≤ length xs → m * k ≤ length l → length (written f m xs k l) ≡ length l
-  written_length k h j = rw (length-append (concat (map f (take k xs))) (drop (m * k) l), part_length k h, length-drop (m * k) l) (omega arith)
 
   -- One part more.
   pub written_more : (k : ℕ) (d : A) → k < length xs → put_mid (m * k) (m * k + m - m * k) (written f m xs k l) (f (get_or xs k d)) ≡ written f m xs (k + 1) l

@@ -1,13 +1,21 @@
 -- How far the roll reaches where it is judged: from 6.4 to 35 degrees, and the product that it is the root of.
-use mathlib.Core.Path.{◌≡◌}
+use mathlib.Core.Path.{◌≡◌, ap, ◌∙◌}
 use mathlib.Core.Bool.{false}
-use Prim.Native.Nat.{◌*◌, ◌≤◌}
+use Prim.Native.Nat.{ℕ, ◌*◌, ◌^◌, ◌≤◌, ◌<◌}
 use native.Mathlib.Nat.{mul-le-mul, mul-le-mul_left}
-use lib.IntN.{nat_abs}
+use lib.IntN.{ℤ, nat_abs}
+use mir.Syntax.{w64}
+use mir.Val.{to_z, of_z}
+use mir.ValLaws.{to_z-of_z}
+use lib.Signed.{mag}
 use Rattle.rules.specs.Curve.{Loaded}
 use Rattle.rules.specs.Roll.{p, r, phi1, not_judged}
 use Rattle.rules.proofs.criteria.Roll.{product}
 use Rattle.rules.proofs.criteria.Ranges.{s_range, p_range, judged, r_range, phi1_judged, phi1_from}
+
+-- r's size, as the machine has it.
+pub r_size : (c : Loaded) (z : ℤ) (n : ℕ) → mag z < 2 ^ 63 → z ≡ r c → n ≡ nat_abs (to_z w64 (of_z w64 z)) → n ≡ nat_abs (r c)
+r_size c z n f e s = s ∙ ap nat_abs (to_z-of_z w64 z (record { sfits = f }) ∙ e)
 
 module _ (c : Loaded) (h : not_judged c ≡ false) where
   -- ---- the product, factor by factor

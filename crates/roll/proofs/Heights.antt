@@ -4,7 +4,10 @@ use Prim.Native.Nat.{ℕ, ◌*◌, ◌≤◌, ◌<◌, ◌^◌}
 use native.Mathlib.Omega.{arith}
 use lib.IntN.{ℤ, pos, negsuc, neg_ℤ, ◌+ℤ◌, ◌-ℤ◌, ◌*ℤ◌}
 use mir.Syntax.{w64}
-use mir.Val.{SFits}
+use mir.Val.{SFits, to_z}
+use mir.ValLaws.{to_z_pos}
+use lib.Dec.{lt→ltb}
+use lib.Signed.{lt_z_yes, ◌<ℤ◌}
 use Rattle.rules.specs.Loading.{tenths}
 use Rattle.rules.specs.Rounding.{ceil_z}
 use Rattle.rules.specs.Curve.{Loaded}
@@ -55,6 +58,15 @@ module _ (c : Loaded) (s : Sized c) where
   sum_within = record { above = omega (arith, up_add (pos 730) (ceil_z (pos 600 *ℤ over) d), quotient_within.above); below = omega (arith, dn_add (pos 730) (ceil_z (pos 600 *ℤ over) d), quotient_within.below) }
 
   -- ---- what fits, and what it is
+  pub kg_back : to_z w64 c.kg ≡ pos c.kg
+  kg_back = to_z_pos w64 c.kg (omega (arith, s))
+
+  pub d_back : to_z w64 d ≡ pos d
+  d_back = to_z_pos w64 d (omega (arith, s))
+
+  pub d_above : pos 0 <ℤ pos d
+  d_above = lt_z_yes (lt→ltb 0 d (omega (arith, s)))
+
   pub over_fits : SFits w64 over
   over_fits = fits 900_000 over (omega arith) over_within
 

@@ -1,5 +1,4 @@
 pub mod Limits
-pub mod Bilge
 pub mod Factors
 pub mod Judged
 pub mod Heights

@@ -1,8 +1,7 @@
 // The program: reads standard input, at most 60,001 characters of it, and prints the report lines, one for each condition.
 #![tactic(auto)]
 
-ghost use Rattle.std.specs.Prelude.{length};
-ghost use Rattle.rostblume.specs.Input.{Fits};
+ghost use Rattle.std.specs.Prelude.{◌≤◌, length, IfOk};
 
 use std::io;
 use std::io::{Eprint, Read, Write};
@@ -10,27 +9,19 @@ use std::io::{Eprint, Read, Write};
 // 'The program up to 60,000, answering 1 beyond.'
 const MOST_CHARACTERS: usize = 60_000;
 
-#[derive(Clone, Copy)]
-pub enum Input {
-    // That many characters stand at the front of the buffer.
-    Text(usize),
-    // A read failed.
-    Failed(io::Error),
-}
-
-// Standard input up to its end, or as much of it as the buffer holds.
-fn read_input<R: Read>(stdin: &mut R, buf: &mut [u8]) -> Input
-    ensures { Fits result (length buf.new) }
+// Standard input up to its end, or as much of it as the buffer holds: that many characters stand at the front of the buffer.
+fn read_input<R: Read>(stdin: &mut R, buf: &mut [u8]) -> io::Result<usize>
+    ensures { IfOk result (λ n. n ≤ length buf.new) }
 {
     let mut n = 0;
     while n < buf.len() {
-        match stdin.read(&mut buf[n..]) {
-            Ok(0) => return Input::Text(n),
-            Ok(more) => n = n + more,
-            Err(e) => return Input::Failed(e),
+        let more = stdin.read(&mut buf[n..])?;
+        if more == 0 {
+            break;
         }
+        n += more;
     }
-    Input::Text(n)
+    Ok(n)
 }
 
 // A line on standard error: what failed, and how. Where that fails too, nothing is left to do.
@@ -39,13 +30,10 @@ fn fail<E: Eprint>(stderr: &E, what: &str, error: io::Error) {
 }
 
 // What is printed is what was written: one report line for a text that is refused as a whole, else one for each condition, up to 24.
-fn print_reports<W: Write, E: Eprint>(stdout: &mut W, stderr: &E, text: &[u8]) {
+fn print_reports<W: Write>(stdout: &mut W, text: &[u8]) -> io::Result<()> {
     let mut report = [0u8; 5016];
     let reply = instrument::judge_within(text, MOST_CHARACTERS, &mut report);
-    let written = reply.length;
-    if let Err(e) = stdout.write_all(&report[..written]) {
-        fail(stderr, "standard output", e);
-    }
+    stdout.write_all(&report[..reply.length])
 }
 
 fn judge_input<R: Read, W: Write, E: Eprint>(
@@ -54,10 +42,13 @@ fn judge_input<R: Read, W: Write, E: Eprint>(
     stderr: &E,
     buf: &mut [u8],
 ) {
-    let input = read_input(stdin, buf);
-    match input {
-        Input::Text(n) => print_reports(stdout, stderr, &buf[..n]),
-        Input::Failed(e) => fail(stderr, "standard input", e),
+    match read_input(stdin, buf) {
+        Err(e) => fail(stderr, "standard input", e),
+        Ok(n) => {
+            if let Err(e) = print_reports(stdout, &buf[..n]) {
+                fail(stderr, "standard output", e);
+            }
+        }
     }
 }
 

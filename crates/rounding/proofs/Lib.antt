@@ -1,4 +1,4 @@
+pub mod TablePoints
 pub mod Quotients
 pub mod Halves
-pub mod TablePoints
 pub mod OneAnswer

@@ -2,8 +2,7 @@
 use mathlib.Core.Path.{◌≡◌, sym, ◌∙◌}
 use Rattle.rounding.proofs.ceil.Reads as ceil
 use Rattle.rounding.proofs.ceil_signed.Reads as ceil-signed
-use Rattle.rounding.proofs.line_down.Reads as line-down
-use Rattle.rounding.proofs.line_up.Reads as line-up
+use Rattle.rounding.proofs.line.Reads as line
 use Rattle.rounding.proofs.table_up.Reads as table_up
 use Rattle.rounding.proofs.greatest_square.Reads as greatest-square
 
@@ -13,11 +12,8 @@ ceil_one κs a r r' s s' p q = p ∙ sym q
 pub ceil_signed_one : (κs a r r' s s' : _) → ceil-signed.Post κs a r s → ceil-signed.Post κs a r' s' → r ≡ r'
 ceil_signed_one κs a r r' s s' p q = p ∙ sym q
 
-pub line_down_one : (κs a r r' s s' : _) → line-down.Post κs a r s → line-down.Post κs a r' s' → r ≡ r'
-line_down_one κs a r r' s s' p q = p ∙ sym q
-
-pub line_up_one : (κs a r r' s s' : _) → line-up.Post κs a r s → line-up.Post κs a r' s' → r ≡ r'
-line_up_one κs a r r' s s' p q = p ∙ sym q
+pub line_one : (κs a r r' s s' : _) → line.Post κs a r s → line.Post κs a r' s' → r ≡ r'
+line_one κs a r r' s s' p q = p ∙ sym q
 
 pub table_up_one : (κs a r r' s s' : _) → table_up.Post κs a r s → table_up.Post κs a r' s' → r ≡ r'
 table_up_one κs a r r' s s' p q = p ∙ sym q

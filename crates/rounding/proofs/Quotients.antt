@@ -1,7 +1,8 @@
--- The machine's signed quotient and remainder by a number above zero, by the sign of what is divided: one more where there is a remainder above zero is the ceiling.
-use Prim.Native.Nat.{ℕ, zero, suc, ◌+◌, ◌/◌, ◌%◌, ◌<◌, ◌≤◌}
+-- Quotients rounded up: the library's, and the machine's signed one by a number above zero, by the sign of what is divided, where one more with a remainder above zero is the ceiling.
+use Prim.Native.Nat.{ℕ, zero, suc, ◌+◌, ◌/◌, ◌%◌, ◌<◌, ◌≤◌, min}
 use native.Mathlib.Nat.{div-le_self, div-add-mod', div-eq_of_lt-le, suc-mul, mod-lt, le-mul_of_pos_right}
 use native.Mathlib.Omega.{arith}
+use native.Mathlib.Decide.{dec_le}
 use mathlib.Core.Path.{◌≡◌, refl, ap, sym}
 use mathlib.Core.Bool.{true, false}
 use lib.Dec.{ltb→lt}
@@ -9,7 +10,7 @@ use lib.IntN.{ℤ, pos, negsuc, neg_ℤ, nat_abs, ◌+ℤ◌}
 use lib.Signed.{◌<ℤ◌, quot_z, rem_z, lt_z, mag, mag_rem}
 use borrow.Author.Tests.{ltb-true, ltb-false}
 use mir.Syntax.{w64}
-use mir.Val.{SFits, of_z}
+use mir.Val.{SFits}
 use mir.ValLaws.{sfits_le}
 use Rattle.rules.specs.Rounding.{ceil, ceil_z}
 
@@ -28,6 +29,13 @@ with_remainder a d h r = sym (div-eq_of_lt-le d (omega (arith, div-add-mod' a d,
 
 with_none : (a d : ℕ) → 0 < d → a % d ≤ 0 → a / d ≡ ceil a d
 with_none a d h r = sym (div-eq_of_lt-le d (omega (arith, div-add-mod' a d)) (omega (arith, div-add-mod' a d, suc-mul (a / d) d)))
+
+-- The library's quotient rounded up.
+pub div_ceil_is : (n d : ℕ) → 0 < d → n / d + min 1 (n % d) ≡ ceil n d
+div_ceil_is n d h = elim (dec_le (n % d) 0) [
+  | yes e ↦ omega (arith, with_none n d h e)
+  | no e ↦ omega (arith, with_remainder n d h (omega arith))
+]
 
 -- ---- signed
 pub one_more : (a d : ℤ) → pos 0 <ℤ d → lt_z (pos 0) (rem_z a d) ≡ true → quot_z a d +ℤ pos 1 ≡ ceil_z a (nat_abs d)
@@ -61,7 +69,3 @@ one_more_fits (pos a) (pos d) f h e = sfits_le (room (ltb→lt 0 d h.lt) (ltb-tr
 one_more_fits (negsuc a) (pos d) f h e = absurd (neg_not (suc a % d) e)
 one_more_fits (pos a) (negsuc d) f h e = absurd h.lt
 one_more_fits (negsuc a) (negsuc d) f h e = absurd h.lt
-
-pub bits_pos : (d : ℤ) → pos 0 <ℤ d → 0 < of_z w64 d
-bits_pos (pos d) h = ltb→lt 0 d h.lt
-bits_pos (negsuc d) h = absurd h.lt

@@ -1,26 +1,30 @@
--- Points as code holds them: two of them with a place between, and a table's points one after another, place and value by turns.
-use Rattle.std.specs.Prelude.{Bool, true, ◌&&◌, List, [], ◌∷◌, ℕ, ◌≤◌, ◌<◌, leb, ltb, length}
-use Rattle.rules.specs.Rounding.{Point, point}
+-- Points as code holds them: as the rules hold them, two of them with a place between, and what is asked of a table.
+use Rattle.std.specs.Prelude.{Bool, true, ◌&&◌, List, [], ◌∷◌, map, ℕ, ◌≤◌, ◌<◌, ltb}
+use Rattle.rules.specs.Rounding as rules
+use Rattle.rounding.specs.declared.Point.{Point}
+use Rattle.rounding.specs.declared.Way.{Way}
+use Rattle.rounding.specs.declared.Way.TheVariants.{Down, Up}
+
+abbrev pub way_of : Way → rules.Direction
+way_of Down = rules.down
+way_of Up = rules.up
+
+abbrev pub point_of : Point → rules.Point
+point_of p = rules.point p.place p.value
+
+abbrev pub points_of : List Point → List rules.Point
+points_of ps = map point_of ps
 
 -- x lies between two points whose places are masses or less, and whose values are of two bytes.
-pub record Between (x0 v0 x1 v1 x : ℕ) : Type 0 where
-  pub rise : x0 < x1
-  pub from : x0 ≤ x
-  pub to : x ≤ x1
-  pub far : x1 ≤ 600_000_000
-  pub first : v0 < 65_536
-  pub second : v1 < 65_536
+pub record Between (p q : Point) (x : ℕ) : Type 0 where
+  pub rise : p.place < q.place
+  pub from : p.place ≤ x
+  pub to : x ≤ q.place
+  pub far : q.place ≤ 600_000_000
+  pub first : p.value < 65_536
+  pub second : q.value < 65_536
 
-abbrev pub points_of : List ℕ → List Point
-points_of [] = []
-points_of (a ∷ []) = []
-points_of (a ∷ b ∷ s) = point a b ∷ points_of s
-
--- Each number is one of two bytes.
-abbrev pub small : List ℕ → Bool
-small [] = true
-small (x ∷ s) = ltb x 65_536 && small s
-
--- What is asked of a table, so that constants show it by computation: a point at least, and small numbers.
-abbrev pub tabled : List ℕ → Bool
-tabled s = leb 2 (length s) && small s
+-- What is asked of a table, so that constants show it by computation: each place and each value is a number of two bytes.
+abbrev pub tabled : List Point → Bool
+tabled [] = true
+tabled (p ∷ ps) = (ltb p.place 65_536 && ltb p.value 65_536) && tabled ps

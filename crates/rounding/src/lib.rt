@@ -1,16 +1,17 @@
 // Division with its exact rounding, the straight line between points, tables of points, and the greatest number whose square fits.
 #![tactic(auto)]
 
-ghost use Rattle.std.specs.Prelude.{◌≡◌, true, ◌+◌, ◌-◌, ◌*◌, ◌/◌, ◌^◌, max, ◌≤◌, ◌<◌, leb, pos, nat_abs, ◌<ℤ◌};
-ghost use Rattle.rules.specs.Rounding.{ceil, ceil_z, point, down, up, span, line, table, greatest};
-ghost use Rattle.rounding.specs.Points.{Between, points_of, tabled};
+ghost use Rattle.std.specs.Prelude.{◌≡◌, true, ◌*◌, ◌^◌, ◌≤◌, ◌<◌, leb, pos, nat_abs, ◌<ℤ◌};
+ghost use Rattle.rules.specs.Rounding.{ceil, ceil_z, up, line, table, greatest};
+ghost use Rattle.rounding.specs.Points.{Between, way_of, point_of, points_of, tabled};
 
 // n / d, rounded up.
+#[tactic(auto, using(crate::proofs::Quotients::div_ceil_is))]
 pub fn ceil(n: u64, d: u64) -> u64
-    requires { (0 < d) × (n + d ≤ 2 ^ 64) }
+    requires { 0 < d }
     ensures { result ≡ ceil n d }
 {
-    (n + (d - 1)) / d
+    n.div_ceil(d)
 }
 
 // a / d, rounded up, either side of zero.
@@ -22,50 +23,50 @@ pub fn ceil_signed(a: i64, d: i64) -> i64
     if 0 < a % d { q + 1 } else { q }
 }
 
-// The straight line through two points at x, times their distance, with `more` added before it is divided by that.
-fn line(x0: u64, v0: u64, x1: u64, v1: u64, x: u64, more: u64) -> u64
-    requires { Between x0 v0 x1 v1 x × (more ≤ x1) }
-    ensures { result ≡ (span (point x0 v0) (point x1 v1) x + more) / (x1 - x0) }
-{
-    (v0 * (x1 - x) + v1 * (x - x0) + more) / (x1 - x0)
+// A point of a table: at this place, this value.
+#[derive(Clone, Copy)]
+pub struct Point {
+    pub place: u64,
+    pub value: u64,
 }
 
-// The straight line, rounded down.
-pub fn line_down(x0: u64, v0: u64, x1: u64, v1: u64, x: u64) -> u64
-    requires { Between x0 v0 x1 v1 x }
-    ensures { result ≡ line down (point x0 v0) (point x1 v1) x }
-{
-    line(x0, v0, x1, v1, x, 0)
+// Which way a value is rounded.
+#[derive(Clone, Copy)]
+pub enum Way {
+    Down,
+    Up,
 }
 
-// The straight line, rounded up.
-pub fn line_up(x0: u64, v0: u64, x1: u64, v1: u64, x: u64) -> u64
-    requires { Between x0 v0 x1 v1 x }
-    ensures { result ≡ line up (point x0 v0) (point x1 v1) x }
+// The straight line through two points at x, rounded.
+pub fn line(from: Point, to: Point, x: u64, way: Way) -> u64
+    requires { Between from to x }
+    ensures { result ≡ line (way_of way) (point_of from) (point_of to) x }
 {
-    line(x0, v0, x1, v1, x, x1 - x0 - 1)
-}
-
-fn max(a: u64, b: u64) -> u64
-    ensures { result ≡ max a b }
-{
-    if a < b { b } else { a }
+    let gap = to.place - from.place;
+    let span = from.value * (to.place - x) + to.value * (x - from.place);
+    match way {
+        Way::Down => span / gap,
+        Way::Up => ceil(span, gap),
+    }
 }
 
 // Any table of constant points: linear between points, flat beyond, rounded up.
-pub fn table_up(points: &[u64], x: u64) -> u64
+pub fn table_up(points: &[Point], x: u64) -> u64
     requires { tabled points.now ≡ true }
     ensures { result ≡ table up (points_of points.now) x }
 {
-    let at = max(x, points[0]);
-    let mut i = 0;
-    while 4 <= points.len() - i {
-        if at < points[i + 2] {
-            return line_up(points[i], points[i + 1], points[i + 2], points[i + 3], at);
+    let Some((&first, others)) = points.split_first() else {
+        return 0;
+    };
+    let at = x.max(first.place);
+    let mut from = first;
+    for &to in others {
+        if at < to.place {
+            return line(from, to, at, Way::Up);
         }
-        i += 2;
+        from = to;
     }
-    points[i + 1]
+    from.value
 }
 
 // The greatest n up to `top` with n² a <= b, by halving.

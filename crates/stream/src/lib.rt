@@ -2,10 +2,11 @@
 // the bytes of room in the buffer; and then the text.
 #![tactic(auto)]
 
-ghost use Rattle.std.specs.Prelude.{◌≤◌, length};
-ghost use Rattle.stream.specs.Stream.{Fits};
+ghost use Rattle.std.specs.Prelude.{◌≤◌, length, IfOk, IfSome};
 
+use std::error::Error;
 use std::io::Read;
+use std::{fmt, io};
 
 // A text of `len` bytes stands at the front of the buffer.
 #[derive(Clone, Copy)]
@@ -15,63 +16,44 @@ pub struct Text {
     pub room: usize,
 }
 
-#[derive(Clone, Copy)]
-pub enum Next {
-    Text(Text),
-    // The stream has ended.
-    End,
-    // It has ended within a head or a text, or a text is longer than the buffer.
-    Broken,
-}
+// The stream has ended within a head or a text, or a text is longer than the buffer.
+#[derive(Clone, Copy, Debug, PartialEq, Eq)]
+pub struct Broken;
 
-// One read, which counts as an end where it fails.
-fn read_some<R: Read>(input: &mut R, buf: &mut [u8]) -> usize
-    ensures { result ≤ length buf.new }
-{
-    match input.read(buf) {
-        Ok(n) => n,
-        Err(_) => 0,
+impl fmt::Display for Broken {
+    fn fmt<W: fmt::Write>(&self, f: &mut fmt::Formatter<W>) -> fmt::Result {
+        write!(f, "the stream is broken")
     }
 }
 
-// Reads until the buffer is full, the input ends or a read fails: how many bytes it put at the front of the buffer.
-fn read_full<R: Read>(input: &mut R, buf: &mut [u8]) -> usize
-    ensures { result ≤ length buf.new }
-{
-    let mut done = 0;
-    while done < buf.len() {
-        let n = read_some(input, &mut buf[done..]);
-        if n == 0 {
-            break;
-        }
-        done += n;
+impl Error for Broken {}
+
+// A read that fails within a head or a text.
+impl From<io::Error> for Broken {
+    fn from(_e: io::Error) -> Broken {
+        Broken
     }
-    done
 }
 
-// The next text, into the front of a buffer. A read that fails counts as the end of the stream.
-pub fn next_text<R: Read>(input: &mut R, buf: &mut [u8]) -> Next
-    ensures { Fits result (length buf.new) }
+// The next text, into the front of a buffer, or none where the stream has ended. A first read that fails counts as the end of the stream; one that fails
+// within a head or a text breaks it.
+pub fn next_text<R: Read>(input: &mut R, buf: &mut [u8]) -> Result<Option<Text>, Broken>
+    ensures { IfOk result (λ next. IfSome next (λ t. t.len ≤ length buf.new)) }
 {
     let mut head = [0u8; 12];
-    let got = read_full(input, &mut head);
+    let got = input.read(&mut head).unwrap_or(0);
     if got == 0 {
-        return Next::End;
+        return Ok(None);
     }
-    if got < 12 {
-        return Next::Broken;
-    }
-    let len = numbers::u32_at(&head, 0) as usize;
+    input.read_exact(&mut head[got..])?;
+    let len = numbers::number_at::<4>(&head, 0) as usize;
     if buf.len() < len {
-        return Next::Broken;
+        return Err(Broken);
     }
-    let more = read_full(input, &mut buf[..len]);
-    if more < len {
-        return Next::Broken;
-    }
-    Next::Text(Text {
+    input.read_exact(&mut buf[..len])?;
+    Ok(Some(Text {
         len,
-        limit: numbers::u32_at(&head, 4) as usize,
-        room: numbers::u32_at(&head, 8) as usize,
-    })
+        limit: numbers::number_at::<4>(&head, 4) as usize,
+        room: numbers::number_at::<4>(&head, 8) as usize,
+    }))
 }

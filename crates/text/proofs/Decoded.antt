@@ -1,6 +1,6 @@
 -- Pair after pair: what is left to decode once n pairs are looked at, and what stands in the buffer.
 use mathlib.Core.Path.{◌≡◌, refl, ap, sym, ◌∙◌}
-use mathlib.Core.Bool.{Bool, true, false}
+use mathlib.Core.Bool.{Bool, true, false, cond}
 use mathlib.Core.List.{List, [], ◌∷◌, ◌++◌, append_assoc, append-nil}
 use Prim.Native.Nat.{ℕ, zero, suc, ◌+◌, ◌*◌, ◌/◌, ◌≤◌, ◌<◌, min}
 use native.Mathlib.Omega.{arith}
@@ -9,9 +9,11 @@ use lib.Dec.{leb, ltb}
 use lib.ListN.{length, get_or, take, drop, set, length-drop, length-set, take-append-drop}
 use lib.Seq.{drop-cons, drop-set-lt, take-suc-set, take_all, length-take-le}
 use borrow.Author.Tests.{leb-true, leb-false, ltb-true, ltb-false}
-use Rattle.text.specs.Line.{pair_of, before, decoded, over}
-use Rattle.text.specs.declared.Pair.{Pair}
-use Rattle.text.specs.declared.Pair.TheVariants.{Byte, Not}
+use Rattle.text.specs.Line.{is_pair, pair_of, before, decoded, over}
+use Rattle.std.specs.Prelude.{Option, None, Some, take_while}
+use Rattle.std.specs.List.{prefix_len}
+use Rattle.std.specs.Option.{is_some}
+use Rattle.std.specs.Simd.{first_chunks}
 
 short : (s : List ℕ) → length s ≤ 1 → decoded s ≡ []
 unfolding decoded
@@ -26,9 +28,9 @@ decoded_half [] = omega arith
 decoded_half (a ∷ []) = omega arith
 decoded_half (a ∷ b ∷ s) = go (pair_of a b) (decoded_half s)
   where
-    go : (p : Pair) → 2 * length (decoded s) ≤ length s → 2 * length (before p (decoded s)) ≤ length (a ∷ b ∷ s)
-    go Not h = omega arith
-    go (Byte x) h = omega arith
+    go : (p : Option ℕ) → 2 * length (decoded s) ≤ length s → 2 * length (before p (decoded s)) ≤ length (a ∷ b ∷ s)
+    go None h = omega arith
+    go (Some x) h = omega arith
 
 -- ---- bytes over a buffer
 pub over_length : (b out : List ℕ) → length (over b out) ≡ length out
@@ -60,11 +62,11 @@ module _ (t : List ℕ) (n : ℕ) where
   pub last_pair : length t ≤ 2 * n + 1 → decoded (drop (2 * n) t) ≡ []
   last_pair h = short (drop (2 * n) t) (rw (length-drop (2 * n) t) (omega arith))
 
-  pub no_pair : 2 * n + 1 < length t → pair_of (get_or t (2 * n) 0) (get_or t (2 * n + 1) 0) ≡ Not → decoded (drop (2 * n) t) ≡ []
+  pub no_pair : 2 * n + 1 < length t → pair_of (get_or t (2 * n) 0) (get_or t (2 * n + 1) 0) ≡ None → decoded (drop (2 * n) t) ≡ []
   unfolding decoded
   no_pair h e = rw (two h, e)
 
-  next_pair : (x : ℕ) → 2 * n + 1 < length t → pair_of (get_or t (2 * n) 0) (get_or t (2 * n + 1) 0) ≡ Byte x → decoded (drop (2 * n) t) ≡ x ∷ decoded (drop (2 * (n + 1)) t)
+  next_pair : (x : ℕ) → 2 * n + 1 < length t → pair_of (get_or t (2 * n) 0) (get_or t (2 * n + 1) 0) ≡ Some x → decoded (drop (2 * n) t) ≡ x ∷ decoded (drop (2 * (n + 1)) t)
   unfolding decoded
   next_pair x h e = rw (two h, e)
 
@@ -75,7 +77,7 @@ Passed t n = length (decoded t) ≡ n + length (decoded (drop (2 * n) t))
 pub passed_none : (t : List ℕ) → Passed t 0
 passed_none t = omega arith
 
-pub passed_more : (t : List ℕ) (n : ℕ) → Passed t n → (x : ℕ) → 2 * n + 1 < length t → pair_of (get_or t (2 * n) 0) (get_or t (2 * n + 1) 0) ≡ Byte x → Passed t (n + 1)
+pub passed_more : (t : List ℕ) (n : ℕ) → Passed t n → (x : ℕ) → 2 * n + 1 < length t → pair_of (get_or t (2 * n) 0) (get_or t (2 * n + 1) 0) ≡ Some x → Passed t (n + 1)
 passed_more t n p x h e = let d = ap length (next_pair t n x h e) in omega arith
 
 pub passed_done : (t : List ℕ) (n : ℕ) → Passed t n → decoded (drop (2 * n) t) ≡ [] → n ≡ length (decoded t)
@@ -89,12 +91,30 @@ passed_rest (suc k) [] h = absurd (omega arith)
 passed_rest (suc k) (a ∷ []) h = absurd (omega arith)
 passed_rest (suc k) (a ∷ b ∷ s) h = go (pair_of a b) (λ h. passed_rest k s h) h
   where
-    go : (p : Pair) → (k ≤ length (decoded s) → Passed s k) → suc k ≤ length (before p (decoded s)) → length (before p (decoded s)) ≡ suc k + length (decoded (drop (2 * suc k) (a ∷ b ∷ s)))
-    go Not r h = absurd (omega arith)
-    go (Byte x) r h =
+    go : (p : Option ℕ) → (k ≤ length (decoded s) → Passed s k) → suc k ≤ length (before p (decoded s)) → length (before p (decoded s)) ≡ suc k + length (decoded (drop (2 * suc k) (a ∷ b ∷ s)))
+    go None r h = absurd (omega arith)
+    go (Some x) r h =
         let e : 2 * suc k ≡ suc (suc (2 * k)) = omega arith in
         let p = r (omega arith) in
         rw e (omega arith)
+
+-- Two by two, as long as they are pairs.
+pub pairs_counted : (s : List ℕ) → length (take_while is_pair (first_chunks 2 (length s / 2) s)) ≡ length (decoded s)
+unfolding decoded
+pairs_counted [] = refl
+pairs_counted (a ∷ []) = refl
+pairs_counted (a ∷ b ∷ s) = rw (half (length s)) (go (pair_of a b) (pairs_counted s))
+  where
+    half : (n : ℕ) → suc (suc n) / 2 ≡ suc (n / 2)
+    half n = omega arith
+
+    suc_add : (n : ℕ) → 1 + n ≡ suc n
+    suc_add n = omega arith
+
+    go : (p : Option ℕ) → length (take_while is_pair (first_chunks 2 (length s / 2) s)) ≡ length (decoded s)
+        → length (take (cond (is_some p) (1 + prefix_len is_pair (first_chunks 2 (length s / 2) s)) 0) ((a ∷ b ∷ []) ∷ first_chunks 2 (length s / 2) s)) ≡ length (before p (decoded s))
+    go None h = refl
+    go (Some x) h = rw (suc_add (prefix_len is_pair (first_chunks 2 (length s / 2) s))) (ap suc h)
 
 -- Where there is room for more than there are, those are all; else the others come behind.
 module _ (t : List ℕ) (n room : ℕ) (e : n ≡ length (take room (decoded t))) where
@@ -123,7 +143,7 @@ pub going_none : (t kept : List ℕ) → Going t kept kept 0
 going_none t kept = record { passed = passed_none t; buffer = refl; room = refl }
 
 module _ {t kept out : List ℕ} {n : ℕ} (g : Going t kept out n) where
-  pub going_more : (x : ℕ) → 2 * n + 1 < length t → n < length out → pair_of (get_or t (2 * n) 0) (get_or t (2 * n + 1) 0) ≡ Byte x → Going t kept (set out n x) (n + 1)
+  pub going_more : (x : ℕ) → 2 * n + 1 < length t → n < length out → pair_of (get_or t (2 * n) 0) (get_or t (2 * n + 1) 0) ≡ Some x → Going t kept (set out n x) (n + 1)
   unfolding over
   going_more x h l e =
       let d : decoded (drop (2 * n) t) ≡ x ∷ decoded (drop (2 * (n + 1)) t) = next_pair t n x h e in

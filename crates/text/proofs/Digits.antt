@@ -2,20 +2,19 @@
 use mathlib.Core.Path.{◌≡◌, refl, sym, ◌∙◌}
 use mathlib.Core.Bool.{Bool, true, false, cond, ◌&&◌}
 use mathlib.Core.List.{List, ◌∷◌}
-use Prim.Native.Nat.{ℕ, zero, suc, ◌+◌, ◌-◌, ◌*◌, ◌<◌}
+use Prim.Native.Nat.{ℕ, zero, suc, ◌+◌, ◌-◌, ◌*◌, ◌≤◌, ◌<◌}
 use native.Mathlib.Omega.{arith}
 use native.Mathlib.Numerals.{add-one}
 use lib.Dec.{leb, ltb, eqb}
-use lib.ListN.{length, get_or, set, length-set}
+use lib.ListN.{get_or, set}
 use borrow.Author.Tests.{leb-true, eqb-true, eqb-false, le-ltb, ne_eqb}
 use Rattle.rules.specs.Text.{LF, digit}
 use Rattle.rules.specs.Outcome.{Ans, refused, got, ◌>>=◌}
 use Rattle.rules.specs.Walk.{nibble, unhex}
 use Rattle.rules.proofs.walk.Outcome.{bind_got, bind_refused}
 use Rattle.rules.proofs.layout.Fields.{both_true}
-use Rattle.text.specs.Line.{value_of, digit_of, digits_up_to, Digits, pair_of}
-use Rattle.text.specs.declared.Pair.{Pair}
-use Rattle.text.specs.declared.Pair.TheVariants as pair
+use Rattle.text.specs.Line.{value_of, digit_of, digits_up_to, HasDigits, pair_of}
+use Rattle.std.specs.Prelude.{Option, None, Some}
 
 -- ---- the table
 -- Each character below n has its value in the table d.
@@ -32,26 +31,24 @@ agrees d (suc n) c e h = let b = both_true _ _ e in go b.0 (λ k. agrees d n c b
     go last before true p = let z : c ≡ n = eqb-true c n p in rw z (eqb-true _ _ last)
     go last before false p = before (let m = eqb-false c n p in omega arith)
 
-pub table_digits : Digits (digits_up_to 16)
+table_digits : HasDigits (digits_up_to 16)
 unfolding digits_up_to digit digit_of nibble agree
 table_digits = record { all = refl; each = λ c h. agrees (digits_up_to 16) 256 c refl h }
 
--- It stays as long as it is, and each digit's character stands in it.
-pub table_length : (n : ℕ) → length (digits_up_to n) ≡ 256
-unfolding digits_up_to
-table_length zero = refl
-table_length (suc n) = length-set (digits_up_to n) (digit n) n ∙ table_length n
+pub has_digits : (v : List ℕ) → v ≡ digits_up_to 16 → HasDigits v
+has_digits v e = rw e table_digits
 
 -- One digit more.
-pub next_digit : (v : List ℕ) (n k : ℕ) → v ≡ digits_up_to n → k ≡ digit n → set v k n ≡ digits_up_to (n + 1)
+pub next_digit : (v : List ℕ) (n k x : ℕ) → v ≡ digits_up_to n → k ≡ digit n → x ≡ n → set v k x ≡ digits_up_to (n + 1)
 unfolding digits_up_to
-next_digit v n k p q = rw (add-one n, p, q)
+next_digit v n k x p q r = rw (add-one n, p, q, r)
 
-pub character_below : (n : ℕ) → n < 16 → digit n < 256
+-- Each character lies within the table.
+pub character_below : (n : ℕ) → n < 16 → digit n ≤ 70
 unfolding digit
 character_below n h = go (ltb n 10)
   where
-    go : (b : Bool) → cond b (48 + n) (55 + n) < 256
+    go : (b : Bool) → cond b (48 + n) (55 + n) ≤ 70
     go true = omega arith
     go false = omega arith
 
@@ -69,28 +66,29 @@ nibble_says ln c = go (leb 48 c && leb c 57) (leb 65 c && leb c 70) refl refl
     go false true p q = let i = both_true (leb 65 c) (leb c 70) q in rw (le-ltb 15 (c - 55) (omega (arith, leb-true c 70 i.1, leb-true 65 c i.0)))
     go false false p q = refl
 
-abbrev pub pair_says : ℕ → Pair → Ans (List ℕ) → Ans (List ℕ)
-pair_says ln pair.Not m = refused 1 ln 0
-pair_says ln (pair.Byte x) m = m >>= λ r. got (x ∷ r)
+abbrev pub pair_says : ℕ → Option ℕ → Ans (List ℕ) → Ans (List ℕ)
+pair_says ln None m = refused 1 ln 0
+pair_says ln (Some x) m = m >>= λ r. got (x ∷ r)
 
 pub unhex_says : (ln a b : ℕ) (s : List ℕ) → unhex ln (a ∷ b ∷ s) ≡ pair_says ln (pair_of a b) (unhex ln s)
 unfolding unhex pair_of
 unhex_says ln a b s = rw (nibble_says ln a, nibble_says ln b) (go (digit_of a) (digit_of b) (ltb 15 (digit_of a)) (ltb 15 (digit_of b)))
   where
     go : (h l : ℕ) (x y : Bool) → (cond x (refused 1 ln 0) (got h) >>= λ h. cond y (refused 1 ln 0) (got l) >>= λ l. unhex ln s >>= λ r. got ((16 * h + l) ∷ r))
-        ≡ pair_says ln (cond x pair.Not (cond y pair.Not (pair.Byte (16 * h + l)))) (unhex ln s)
+        ≡ pair_says ln (cond x None (cond y None (Some (16 * h + l)))) (unhex ln s)
     go h l true y = bind_refused _ refl
     go h l false true = bind_got _ refl ∙ bind_refused _ refl
     go h l false false = bind_got _ refl ∙ bind_got _ refl
 
 -- A pair of digits holds no LF.
-no_byte : {X : Type 0} {x : ℕ} → pair.Not ≡ pair.Byte x → X
+no_byte : {X : Type 0} {x : ℕ} → ◌≡◌ {A = Option ℕ} None (Some x) → X
 no_byte e = absurd (let n : ◌≡◌ {A = ℕ} 0 1 = cc in omega arith)
 
-pub pair_no_feed : (a b x : ℕ) → pair_of a b ≡ pair.Byte x → (eqb a LF ≡ false) × (eqb b LF ≡ false)
+-- No byte either way.
+never : (f : Bool) → ◌≡◌ {A = Option ℕ} (cond f None None) None
+never true = refl
+never false = refl
+
+pub pair_no_feed : (a b x : ℕ) → pair_of a b ≡ Some x → (eqb a LF ≡ false) × (eqb b LF ≡ false)
 unfolding pair_of digit_of nibble
 pair_no_feed a b x e = (ne_eqb a LF (λ z. no_byte (rw z at e)), ne_eqb b LF (λ z. no_byte (sym (never (ltb 15 (digit_of a))) ∙ rw z at e)))
-  where
-    never : (f : Bool) → cond f pair.Not pair.Not ≡ pair.Not
-    never true = refl
-    never false = refl

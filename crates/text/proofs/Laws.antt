@@ -12,11 +12,8 @@ use Rattle.rules.specs.Text.{LF}
 use Rattle.rules.specs.Outcome.{refused, got, test, ◌>>=◌, ◌>>◌}
 use Rattle.rules.specs.Walk.{unhex, Pieces, put, split, decode, lines_from}
 use Rattle.rules.proofs.walk.Outcome.{refused_got, bind_got, bind_refused, test_got, test_refused}
-use Rattle.text.specs.Line.{pair_of, before, decoded, over, ended, line_of, LineIs}
-use Rattle.text.specs.declared.Pair.{Pair}
-use Rattle.text.specs.declared.Pair.TheVariants as pair
-use Rattle.text.specs.declared.LineRead.{LineRead}
-use Rattle.text.specs.declared.LineRead.TheVariants as line
+use Rattle.text.specs.Line.{pair_of, before, decoded, over, LineRead, no_line, ended, line_of, LineIs}
+use Rattle.std.specs.Prelude.{Option, None, Some, Ok}
 use Rattle.text.proofs.Digits.{unhex_says, pair_no_feed}
 use Rattle.text.proofs.Decoded.{decoded_half, over_length, over_held}
 
@@ -30,7 +27,7 @@ Left ln t p d [] = p ≡ (t, [])
 Left ln t p d (c ∷ s) = After ln p d s (eqb c LF)
 
 module _ (ln a b : ℕ) (s : List ℕ) where
-  left_more : (x : ℕ) (p : Pieces) (d rest : List ℕ) → pair_of a b ≡ pair.Byte x → Left ln s p d rest → Left ln (a ∷ b ∷ s) (a ∷ b ∷ p.0, p.1) (x ∷ d) rest
+  left_more : (x : ℕ) (p : Pieces) (d rest : List ℕ) → pair_of a b ≡ Some x → Left ln s p d rest → Left ln (a ∷ b ∷ s) (a ∷ b ∷ p.0, p.1) (x ∷ d) rest
   unfolding Left After
   left_more x p d [] e h = rw h
   left_more x p d (c ∷ r) e h = go (eqb c LF) h
@@ -39,7 +36,7 @@ module _ (ln a b : ℕ) (s : List ℕ) where
       go true h = (h.0, unhex_says ln a b p.0 ∙ rw e (bind_got _ h.1))
       go false h = unhex_says ln a b p.0 ∙ rw e (bind_refused _ h)
 
-  left_none : pair_of a b ≡ pair.Not → Left ln (a ∷ b ∷ s) (split (a ∷ b ∷ s)) [] (a ∷ b ∷ s)
+  left_none : pair_of a b ≡ None → Left ln (a ∷ b ∷ s) (split (a ∷ b ∷ s)) [] (a ∷ b ∷ s)
   unfolding Left After split put unhex
   left_none e = go (eqb a LF)
     where
@@ -61,10 +58,10 @@ left ln (c ∷ []) = go (eqb c LF)
     go false = refl
 left ln (a ∷ b ∷ s) = go (pair_of a b) refl (left ln s)
   where
-    go : (p : Pair) → pair_of a b ≡ p → Left ln s (split s) (decoded s) (drop (2 * length (decoded s)) s)
+    go : (p : Option ℕ) → pair_of a b ≡ p → Left ln s (split s) (decoded s) (drop (2 * length (decoded s)) s)
         → Left ln (a ∷ b ∷ s) (split (a ∷ b ∷ s)) (before p (decoded s)) (drop (2 * length (before p (decoded s))) (a ∷ b ∷ s))
-    go pair.Not e h = left_none ln a b s e
-    go (pair.Byte x) e h =
+    go None e h = left_none ln a b s e
+    go (Some x) e h =
         let f = pair_no_feed a b x e in
         let k : 2 * suc (length (decoded s)) ≡ suc (suc (2 * length (decoded s))) = omega arith in
         rw (f.0, f.1, k) (left_more ln a b s x (split s) (decoded s) (drop (2 * length (decoded s)) s) e h)
@@ -90,13 +87,13 @@ unended_line ln [] h = absurd (omega arith)
 unended_line ln (c ∷ p) h = refl
 
 module _ (t : List ℕ) where
-  no_line : (s : List ℕ) (f : Bool) → ((ln : ℕ) → After ln (split t) [] s f) → (ln : ℕ) → lines_from ln t ≡ refused 1 ln 0
+  not_ended : (s : List ℕ) (f : Bool) → ((ln : ℕ) → After ln (split t) [] s f) → (ln : ℕ) → lines_from ln t ≡ refused 1 ln 0
   unfolding lines_from After
-  no_line s true h ln = rw (h ln).0 (first_line_lem ln (split t).0 s [] (h ln).1 ∙ test_refused _ _ _ _ refl)
-  no_line s false h ln = refused_line ln (split t).0 (split t).1 (h ln)
+  not_ended s true h ln = rw (h ln).0 (first_line_lem ln (split t).0 s [] (h ln).1 ∙ test_refused _ _ _ _ refl)
+  not_ended s false h ln = refused_line ln (split t).0 (split t).1 (h ln)
 
   some_line : (out : List ℕ) (x : ℕ) (d s : List ℕ) → decoded t ≡ x ∷ d → s ≡ drop (2 * length (x ∷ d) + 1) t → 2 * length (x ∷ d) < length t → (f : Bool) → ((ln : ℕ) → After ln (split t) (x ∷ d) s f)
-      → LineIs t (over (x ∷ d) out) (cond f (line.Line (length (x ∷ d))) line.Not)
+      → LineIs t (over (x ∷ d) out) (cond f (Ok (Some (length (x ∷ d)))) no_line)
   unfolding lines_from After
   some_line out x d s q e l true h = record {
     some = omega arith;
@@ -112,7 +109,7 @@ module _ (t : List ℕ) where
   ended_line : (out d rest : List ℕ) → decoded t ≡ d → drop (2 * length d) t ≡ rest → ((ln : ℕ) → Left ln t (split t) d rest) → LineIs t (over d out) (ended (length d) rest)
   unfolding ended lines_from Left
   ended_line out [] [] e r h = r
-  ended_line out [] (c ∷ s) e r h = no_line s (eqb c LF) h
+  ended_line out [] (c ∷ s) e r h = not_ended s (eqb c LF) h
   ended_line out (x ∷ d) [] e r h = λ ln. rw (h ln) (unended_line ln t (omega (arith, decoded_half t, ap length e)))
   ended_line out (x ∷ d) (c ∷ s) e r h =
       some_line out x d s e (sym (ap (drop 1) r) ∙ drop-drop 1 (2 * length (x ∷ d)) t) (omega (arith, ap length r, length-drop (2 * length (x ∷ d)) t)) (eqb c LF) h

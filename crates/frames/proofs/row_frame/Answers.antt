@@ -1,22 +1,23 @@
 -- `row_frame` meets its contract: head, tag and rows so far, and then the row: 2, 4.
 use mathlib.Core.Path.{ap, sym, ◌∙◌}
-use Rattle.blocks.specs.BlockAnswers.{row_read}
-use Rattle.cursor.proofs.Heads.{begins_fault, begins_block}
-use Rattle.frames.proofs.Exits.{refused_row, row_short, row_due_lem, row_other}
+use Rattle.std.specs.Prelude.{Err}
+use Rattle.book.specs.Book.{answered, plain_row}
+use Rattle.blocks.proofs.Answered.{passed}
+use Rattle.frames.proofs.Heads.{frame_refused, frame_begins}
+use Rattle.frames.proofs.Exits.{row_short, row_due_lem, row_other}
 use Rattle.frames.proofs.row_frame.Goals as goal
 
-pub returns-in_default : goal.returns-in_default
-returns-in_default c =
-    let h = begins_fault _ _ _ _ c.begin-head.ensures _ _ c.in_default.is c.fault.ensures in
-    c.no_row.ensures ∙ refused_row _ _ _ _ _ h.0 (row_short _ _ _ _ h.1)
+pub returns-in_err-frame : goal.returns-in_err-frame
+returns-in_err-frame c =
+    let h = frame_refused c.args.s _ _ c.frame_of.ensures.head _ c.in_err-frame.was in
+    passed _ _ c.from_residual.ensures.1 ∙ ap Err h.0 ∙ sym (ap (answered plain_row) (row_short _ _ _ _ h.1))
 
-pub row_in-requires : goal.row_in-requires
-row_in-requires c = (begins_block _ _ _ _ c.begin-head.ensures _ _ c.in-Block.is).0
-
-pub returns-then-row_due : goal.returns-then-row_due
-returns-then-row_due c =
-    c.row_in.ensures ∙ sym (ap row_read (row_due_lem _ _ _ _ _ c.in-Block.len (begins_block _ _ _ _ c.begin-head.ensures _ _ c.in-Block.is).1 _ c.row_due.ensures c.if-row_due.true))
+pub returns-then-not-is : goal.returns-then-not-is
+returns-then-not-is c =
+    let h = frame_begins _ _ _ c.frame_of.ensures.head c.frame_of.ensures.of _ c.in_ok-frame.was in
+    rw c.in_line.ensures (sym (ap (answered plain_row) (row_other _ _ _ _ _ _ h.1 _ c.is.ensures c.if-not-is.true)))
 
 pub returns : goal.returns
 returns c =
-    c.no_row-2.ensures ∙ refused_row _ _ _ _ _ c.refusal.ensures (row_other _ _ _ _ _ c.in-Block.len (begins_block _ _ _ _ c.begin-head.ensures _ _ c.in-Block.is).1 _ c.row_due.ensures c.if-row_due.false)
+    let h = frame_begins _ _ _ c.frame_of.ensures.head c.frame_of.ensures.of _ c.in_ok-frame.was in
+    rw (h.0.0, h.0.1) at c.row_in.ensures ∙ sym (ap (answered plain_row) (row_due_lem _ _ _ _ _ _ h.1 _ c.is.ensures c.if-not-is.false))

@@ -1,25 +1,25 @@
 -- `ship_frame` meets its contract: head, tag, and then the ship: 2, 4.
 use mathlib.Core.Path.{ap, sym, ◌∙◌}
 use borrow.Author.Tests.{eqb-true, eqb-false}
+use Rattle.std.specs.Prelude.{Err}
 use Rattle.rules.specs.Blocks.{ship}
 use Rattle.rules.proofs.walk.FrameExits.{ship_short, ship_tag, ship_in}
-use Rattle.blocks.specs.BlockAnswers.{ship_read}
-use Rattle.blocks.specs.declared.ship.ShipRead.TheVariants.{Refused}
-use Rattle.cursor.proofs.Heads.{begins_fault, begins_block}
+use Rattle.book.specs.Book.{answered, plain_ship}
+use Rattle.blocks.proofs.Answered.{passed}
+use Rattle.frames.proofs.Heads.{frame_refused, frame_begins}
 use Rattle.frames.proofs.ship_frame.Goals as goal
 
-pub returns-in_default : goal.returns-in_default
-returns-in_default c =
-    let h = begins_fault _ _ _ _ c.begin-head.ensures _ _ c.in_default.is c.fault.ensures in
-    ap Refused h.0 ∙ sym (ap ship_read (ship_short _ _ h.1))
+pub returns-in_err-frame : goal.returns-in_err-frame
+returns-in_err-frame c =
+    let h = frame_refused c.args.s _ _ c.frame_of.ensures.head _ c.in_err-frame.was in
+    passed _ _ c.from_residual.ensures.1 ∙ ap Err h.0 ∙ sym (ap (answered plain_ship) (ship_short _ _ h.1))
 
-pub ship_in-requires : goal.ship_in-requires
-ship_in-requires c = (begins_block _ _ _ _ c.begin-head.ensures _ _ c.in-Block.is).0
-
-pub returns-then-ship_due : goal.returns-then-ship_due
-returns-then-ship_due c =
-    c.ship_in.ensures ∙ sym (ap ship_read (ship_in _ _ _ c.in-Block.len (begins_block _ _ _ _ c.begin-head.ensures _ _ c.in-Block.is).1 (eqb-true _ ship.tag (sym c.ship_due.ensures ∙ c.if-ship_due.true))))
+pub returns-then-not-is : goal.returns-then-not-is
+returns-then-not-is c =
+    let h = frame_begins _ _ _ c.frame_of.ensures.head c.frame_of.ensures.of _ c.in_ok-frame.was in
+    rw c.in_line.ensures (sym (ap (answered plain_ship) (ship_tag _ _ _ _ h.1 (eqb-false _ ship.tag (sym c.is.ensures ∙ c.if-not-is.true)))))
 
 pub returns : goal.returns
 returns c =
-    rw c.refusal.ensures (sym (ap ship_read (ship_tag _ _ _ c.in-Block.len (begins_block _ _ _ _ c.begin-head.ensures _ _ c.in-Block.is).1 (eqb-false _ ship.tag (sym c.ship_due.ensures ∙ c.if-ship_due.false)))))
+    let h = frame_begins _ _ _ c.frame_of.ensures.head c.frame_of.ensures.of _ c.in_ok-frame.was in
+    rw (h.0.0, h.0.1) at c.ship_in.ensures ∙ sym (ap (answered plain_ship) (ship_in _ _ _ _ h.1 (eqb-true _ ship.tag (sym c.is.ensures ∙ c.if-not-is.false))))

@@ -1,20 +1,16 @@
--- `finish` meets its contract: the 25th condition line, or case by case.
-use borrow.Author.Tests.{eq-eqb, ne_eqb}
+-- State by state, where no 25th condition line has come.
+use mathlib.Core.Logic.{inl, inr}
 use Rattle.frames.specs.Sizes.{ship_bytes, row_bytes}
 use Rattle.reading.proofs.finish.Goals as goal
+use Rattle.reading.proofs.finish.Goals.{in-Awaited, in-Conditions, in-Refused}
 
-pub returns-then-tally-ne0 : goal.returns-then-tally-ne0
-returns-then-tally-ne0 c = rw (c.refused.ensures, c.refusal.ensures, ne_eqb _ 0 c.if-tally-ne0.true)
-
-pub returns-in-Awaited : goal.returns-in-Awaited
-returns-in-Awaited c = rw (c.refused-in-Awaited.ensures, c.refusal-in-Awaited.ensures, c.in-Awaited.is, eq-eqb _ 0 c.if-tally-ne0.false)
-
-pub returns-in-Rows : goal.returns-in-Rows
-returns-in-Rows c = rw (c.refused-in-Rows.ensures, c.refusal-in-Rows.ensures, c.in-Rows.is, eq-eqb _ 0 c.if-tally-ne0.false)
-
-pub returns-in-Conditions : goal.returns-in-Conditions
+pub returns : goal.returns
 unfolding row_bytes ship_bytes
-returns-in-Conditions c = rw (c.in-Conditions.is, eq-eqb _ 0 c.if-tally-ne0.false)
-
-pub returns-in-Refused : goal.returns-in-Refused
-returns-in-Refused c = rw (c.refused-in-Refused.ensures, c.in-Refused.is, eq-eqb _ 0 c.if-tally-ne0.false)
+returns c = elim c.match-state.branch [
+  | in-Awaited w ↦ elim w.in-Awaited.is [
+    | inl p ↦ rw (w.front-is, w.in_line-in-Awaited.ensures, p, c.in_default.is)
+    | inr p ↦ rw (w.front-is, w.in_line-in-Awaited.ensures, p.2, c.in_default.is)
+  ]
+  | in-Conditions w ↦ rw (w.front-is, w.len.ensures.value, w.in-Conditions.is, c.in_default.is)
+  | in-Refused w ↦ rw (w.front-is, w.in-Refused.is, c.in_default.is)
+]

@@ -1,34 +1,39 @@
--- `rounding::table_up` meets its contract: from the point at i on, the table is what it is from its first point on. Assumes nothing.
+-- `rounding::table_up` meets its contract: from each point on, the table is what it is from its first point on. Assumes nothing.
 use native.Mathlib.Omega.{arith}
 use mathlib.Core.Path.{sym, ◌∙◌}
-use Prim.Native.Nat.{◌+◌}
-use Rattle.rules.specs.Rounding.{up}
-use Rattle.rounding.proofs.TablePoints.{asked, from_first, from_last, from_between, from_past}
+use Rattle.std.proofs.lemmas.List.{nil_from_length}
+use Rattle.rules.specs.Rounding.{up, table}
+use Rattle.rounding.proofs.TablePoints.{first_small, each_small, from_first, from_last, from_between, from_past}
 use Rattle.rounding.proofs.table_up.Goals as goal
 
-pub bounds-points-0 : goal.bounds-points-0
-bounds-points-0 c = omega (arith, (asked c.args.points.now c.requires).0)
+pub returns-in_default : goal.returns-in_default
+unfolding table
+returns-in_default c = rw (nil_from_length c.args.points.now c.in_default.ensures.cases)
 
-pub loop-i-init : goal.loop-i-init
-loop-i-init c =
-    let a = c.args in
-    let two = (asked a.points.now c.requires).0 in
-    (two, omega arith, rw c.max-at.ensures (from_first up a.points.now a.x two))
+pub loop-to-init : goal.loop-to-init
+loop-to-init c =
+    let t = c.in-Some.ensures.cases.0 in
+    record {
+      before = omega (arith, c.max-at.ensures);
+      value = (first_small _ c.in-Some.others.now (rw t at c.requires)).0.1;
+      onward = rw (t, c.max-at.ensures) (from_first up _ _ _);
+    }
 
-pub line_up-requires : goal.line_up-requires
-line_up-requires c =
-    let small = (asked c.args.points.now c.requires).1 in
-    let i = c.loop-i.i in
-    record { rise = omega (arith, c.if-at-points, c.loop-i); from = c.loop-i.invariant.1; to = omega (arith, c.if-at-points); far = omega (arith, small (i + 2)); first = small (i + 1); second = small (i + 3) }
+pub line-requires : goal.line-requires
+line-requires c =
+    let t = c.in-Some.ensures.cases.0 in
+    let to = each_small _ (first_small c.in-Some.field-0-0.now c.in-Some.others.now (rw t at c.requires)).1 _ _ c.loop-to-test.true in
+    record { rise = omega (arith, c.if-at-to, c.loop-to); from = c.loop-to.invariant.before; to = omega (arith, c.if-at-to.true); far = omega (arith, to.0); first = c.loop-to.invariant.value; second = to.1 }
 
-pub returns-then-at-points : goal.returns-then-at-points
-returns-then-at-points c =
-    c.line_up.ensures ∙ sym (from_between up c.args.points.now c.loop-i.i c.max-at.result c.loop-i-test.true c.if-at-points.true) ∙ c.loop-i.invariant.2
+pub returns-then-at-to : goal.returns-then-at-to
+returns-then-at-to c = c.line.ensures ∙ sym (from_between up _ _ _ _ _ c.loop-to-test.true c.if-at-to.true) ∙ c.loop-to.invariant.onward
 
-pub loop-i-preserved : goal.loop-i-preserved
-loop-i-preserved c =
-    (omega arith, c.if-at-points.false, sym (from_past up c.args.points.now c.loop-i.i c.max-at.result c.loop-i-test.true c.if-at-points.false) ∙ c.loop-i.invariant.2)
+pub loop-to-preserved : goal.loop-to-preserved
+loop-to-preserved c = record {
+  before = c.if-at-to.false;
+  value = (each_small _ (first_small c.in-Some.field-0-0.now c.in-Some.others.now (rw c.in-Some.ensures.cases.0 at c.requires)).1 _ _ c.loop-to-test.true).1;
+  onward = sym (from_past up _ _ _ _ _ c.loop-to-test.true c.if-at-to.false) ∙ c.loop-to.invariant.onward;
+}
 
 pub returns : goal.returns
-returns c =
-    sym (from_last up c.args.points.now c.loop-i.i c.max-at.result c.loop-i-test.false) ∙ c.loop-i.invariant.2
+returns c = sym (from_last up _ _ _ _ c.loop-to-test.false) ∙ c.loop-to.invariant.onward

@@ -1,18 +1,12 @@
--- `line_at` meets its contract: two characters to a byte, so that the line's end lies within the text.
-use mathlib.Core.Path.{subst, sym, ◌∙◌}
+-- Two characters to a byte, so that the line's end lies within the text.
+use mathlib.Core.Path.{◌∙◌}
 use native.Mathlib.Omega.{arith}
-use Rattle.text.specs.Line.{Digits}
-use Rattle.text.proofs.Digits.{table_digits}
 use Rattle.text.proofs.Decoded.{decoded_half, same_room}
 use Rattle.text.proofs.Ended.{line_ended}
 use Rattle.text.proofs.line_at.Goals as goal
 
-pub decode-first-requires : goal.decode-first-requires
-decode-first-requires c = subst Digits (sym c.fill_digits.ensures) table_digits
-
 pub all_pairs-n-requires : goal.all_pairs-n-requires
-all_pairs-n-requires c =
-    (subst Digits (sym c.fill_digits.ensures) table_digits, same_room _ _ _ _ c.decode-first.ensures)
+all_pairs-n-requires c = same_room _ _ _ _ c.decode-first.ensures
 
 pub overflow_mul-n : goal.overflow_mul-n
 overflow_mul-n c = omega (arith, c.all_pairs-n.ensures, decoded_half c.args.text.now)

@@ -7,13 +7,12 @@ use Rattle.blocks.proofs.row.levers.Goals as goal
 
 pub loop-i-init : goal.loop-i-init
 unfolding written
-loop-i-init c = (omega arith, refl, refl)
+loop-i-init c = (refl, refl)
 
 pub loop-i-preserved : goal.loop-i-preserved
-loop-i-preserved c =
-    (omega arith, simp length-set c.loop-i.invariant.1, written_more _ _ _ _ _ c.loop-i.invariant.2 c.u16_at.ensures.0)
+loop-i-preserved c = (simp length-set c.loop-i.invariant.0, written_more _ _ _ _ _ c.loop-i.invariant.1 c.number_at.ensures.value)
 
 pub returns : goal.returns
 returns c =
     let e : c.loop-i.i ≡ 13 = omega arith in
-    rw e at c.loop-i.invariant.2 ∙ levers_row _ c.requires
+    rw e at c.loop-i.invariant.1 ∙ levers_row _

@@ -1,37 +1,26 @@
--- `levers_fit` meets its contract: after i turns the values before i are within their limits.
-use mathlib.Core.Path.{◌≡◌, sym, ◌∙◌}
-use native.Mathlib.Omega.{arith}
-use lib.ListN.{length}
-use Rattle.blocks.proofs.Stations.{levers_zero, levers_not_zero, levers_next, levers_stop, levers_done}
+-- `levers_fit` meets its contract: the first is 0, and the others are within their limits.
+use mathlib.Core.Path.{ap, sym, ◌∙◌}
+use mathlib.Core.Bool.{◌&&◌}
+use Rattle.std.proofs.Common.{rules, arith, tests, ◌≡◌}
+use Rattle.std.proofs.lemmas.Iterator.{YieldsList-from_slice}
+use Rattle.std.proofs.lemmas.Iterator.Search.{all_from_yields_List}
+use lib.ListN.{length, get_or}
+use lib.Dec.{leb}
+use borrow.Author.Tests.{eq-eqb, ne_eqb}
+use Rattle.std.specs.List.{list_all}
+use Rattle.blocks.proofs.Stations.{levers_within}
 use Rattle.blocks.proofs.row.levers_fit.Goals as goal
 
-pub returns-then-kn-ne0 : goal.returns-then-kn-ne0
-returns-then-kn-ne0 c =
+pub returns-then-kn-eq0 : goal.returns-then-kn-eq0
+returns-then-kn-eq0 c =
     let kn = c.args.kn in
     let h : length kn ≡ 13 = omega (arith, c.well_formed) in
-    sym (levers_not_zero kn h c.if-kn-ne0.true)
+    all_from_yields_List (λ x. leb x 30_000) _ _ _ c.all.ensures.ran (YieldsList-from_slice kn cc) (λ x b q k. search (rules, tests))
+    ∙ sym (levers_within kn h ∙ ap (λ b. b && list_all (λ x. leb x 30_000) kn) (eq-eqb (get_or kn 0 0) 0 c.if-kn-eq0.true))
 
-pub loop-i-init : goal.loop-i-init
-loop-i-init c =
+pub returns-else-kn-eq0 : goal.returns-else-kn-eq0
+returns-else-kn-eq0 c =
     let kn = c.args.kn in
     let h : length kn ≡ 13 = omega (arith, c.well_formed) in
-    (omega arith, omega arith, levers_zero kn h c.if-kn-ne0.false)
-
-pub returns-then-kn-i-gt30000 : goal.returns-then-kn-i-gt30000
-returns-then-kn-i-gt30000 c =
-    let kn = c.args.kn in
-    let h : length kn ≡ 13 = omega (arith, c.well_formed) in
-    sym (c.loop-i.invariant.2 ∙ levers_stop kn h c.loop-i.i c.loop-i-test.true c.if-kn-i-gt30000.true)
-
-pub loop-i-preserved : goal.loop-i-preserved
-loop-i-preserved c =
-    let kn = c.args.kn in
-    let h : length kn ≡ 13 = omega (arith, c.well_formed) in
-    (omega arith, omega arith, c.loop-i.invariant.2 ∙ levers_next kn h c.loop-i.i c.loop-i-test.true c.if-kn-i-gt30000.false)
-
-pub returns : goal.returns
-returns c =
-    let kn = c.args.kn in
-    let h : length kn ≡ 13 = omega (arith, c.well_formed) in
-    let e : c.loop-i.i ≡ 13 = omega arith in
-    sym (rw e at c.loop-i.invariant.2 ∙ levers_done kn h)
+    let n = ne_eqb (get_or kn 0 0) 0 c.if-kn-eq0.false in
+    n ∙ sym (levers_within kn h ∙ ap (λ b. b && list_all (λ x. leb x 30_000) kn) n)

@@ -1,8 +1,10 @@
 -- `curve::levers::areas` meets its contract: the areas up to the tenths passed are filled. Assumes nothing.
-use mathlib.Core.Path.{◌≡◌, refl, sym, ◌∙◌}
+use mathlib.Core.Path.{◌≡◌, sym, ◌∙◌}
 use Prim.Native.Nat.{ℕ, ◌+◌, ◌^◌, ◌<◌}
 use native.Mathlib.Omega.{arith}
 use lib.ListN.{get_or, length-set}
+use lib.Seq.{get_or-set_same}
+use borrow.Author.Rules.{rules}
 use lib.IntN.{ℤ, pos, ◌+ℤ◌}
 use lib.Signed.{mag}
 use mathlib.Core.List.{List}
@@ -31,7 +33,8 @@ module _ (ys sums : List ℤ) (t : ℕ) (small : Within most_y ys) (h : t < 600)
   grown = rw (up_to_more (held ys) t, filled.at t (omega arith))
 
   so_far : mag s < 2 ^ 63
-  so_far = rw (filled.at t (omega arith)) (omega (arith, mag_abs (up_to (held ys) t), areas_within ys small t))
+  unfolding held
+  so_far = rw (filled.at t (omega arith)) (omega (arith, mag_abs (up_to (held ys) t), areas_within (held ys) t (λ k l. small k)))
 
   first : mag a < 2 ^ 63
   first = omega (arith, mag_abs a, small t)
@@ -43,7 +46,8 @@ module _ (ys sums : List ℤ) (t : ℕ) (small : Within most_y ys) (h : t < 600)
   pair = omega (arith, mag_abs (a +ℤ b), abs_add a b, small t, small (t + 1))
 
   all : mag (s +ℤ (a +ℤ b)) < 2 ^ 63
-  all = rw grown (omega (arith, mag_abs (up_to (held ys) (t + 1)), areas_within ys small (t + 1)))
+  unfolding held
+  all = rw grown (omega (arith, mag_abs (up_to (held ys) (t + 1)), areas_within (held ys) (t + 1) (λ k l. small k)))
 
   pair_there : SFits w64 (to_z w64 (of_z w64 a) +ℤ to_z w64 (of_z w64 b))
   pair_there = pair_fits s a b so_far first second pair all
@@ -55,18 +59,18 @@ module _ (ys sums : List ℤ) (t : ℕ) (small : Within most_y ys) (h : t < 600)
   sum_is = running_sum s a b so_far first second pair all ∙ grown
 
 pub loop-t-init : goal.loop-t-init
-loop-t-init c = (omega arith, refl, record { at = λ k h. let e : k ≡ 0 = omega arith in rw e (sym (up_to_none (held c.args.y.now))) })
+loop-t-init c = (simp length-set (search rules), record { at = λ k h. let e : k ≡ 0 = omega arith in rw e (get_or-set_same c.args.area.now 0 (pos 0) (pos 0) (search rules) ∙ sym (up_to_none (held c.args.y.now))) })
 
 pub loop-t-preserved : goal.loop-t-preserved
 loop-t-preserved c =
     let l = c.loop-t in
-    (omega arith, simp length-set l.invariant.1, filled_more _ _ _ _ _ (omega arith) l.invariant.2 (sum_is c.args.y.now l.area l.t c.requires c.loop-t-test.true l.invariant.2))
+    (simp length-set l.invariant.0, filled_more _ _ _ _ _ (omega arith) l.invariant.1 (sum_is c.args.y.now l.area l.t c.requires (omega arith) l.invariant.1))
 
 pub overflow_add-area-in-loop-t : goal.overflow_add-area-in-loop-t
-overflow_add-area-in-loop-t c = let l = c.loop-t in pair_there c.args.y.now l.area l.t c.requires c.loop-t-test.true l.invariant.2
+overflow_add-area-in-loop-t c = let l = c.loop-t in pair_there c.args.y.now l.area l.t c.requires (omega arith) l.invariant.1
 
 pub overflow_add-area-in-loop-t-2 : goal.overflow_add-area-in-loop-t-2
-overflow_add-area-in-loop-t-2 c = let l = c.loop-t in sum_there c.args.y.now l.area l.t c.requires c.loop-t-test.true l.invariant.2
+overflow_add-area-in-loop-t-2 c = let l = c.loop-t in sum_there c.args.y.now l.area l.t c.requires (omega arith) l.invariant.1
 
 pub returns : goal.returns
-returns c = let l = c.loop-t in record { long = l.invariant.1; at = λ t h. l.invariant.2.at t (omega arith) }
+returns c = let l = c.loop-t in record { long = l.invariant.0; at = λ t h. l.invariant.1.at t (omega arith) }

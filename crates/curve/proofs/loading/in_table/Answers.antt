@@ -6,8 +6,8 @@ use Rattle.curve.proofs.loading.in_table.Goals as goal
 
 pub returns-then-lowest-w : goal.returns-then-lowest-w
 returns-then-lowest-w c =
-    rw (in_table_at c.args.table c.args.w c.requires, le-leb (row_at c.args.table 0).mass c.args.w c.if-lowest-w.true)
+    rw (in_table_at c.args.rows.now c.args.w, le-leb (row_at c.args.rows.now 0).mass c.args.w c.if-lowest-w.true)
 
 pub returns-else-lowest-w : goal.returns-else-lowest-w
 returns-else-lowest-w c =
-    rw (in_table_at c.args.table c.args.w c.requires, lt-leb (row_at c.args.table 0).mass c.args.w c.if-lowest-w.false)
+    rw (in_table_at c.args.rows.now c.args.w, lt-leb (row_at c.args.rows.now 0).mass c.args.w c.if-lowest-w.false)

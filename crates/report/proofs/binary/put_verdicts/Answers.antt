@@ -1,22 +1,19 @@
--- The invariant is that the first k verdicts stand at the front of the part.
-use Rattle.std.proofs.Common.{◌≡◌, ◌<◌, length, sym, refl, ◌∙◌, add-one, arith, length-set, take_all, take-suc, take-suc-set, rules}
+-- Each verdict's byte is its number.
+use Rattle.std.proofs.Common.{◌≡◌, ℕ, ◌<◌, List, map, length, get_or, sym, ◌∙◌, arith, rules}
+use Rattle.std.proofs.lemmas.Grind.{common_steps, same_number_lists}
+use Rattle.std.proofs.lemmas.List.{get_or-map, length-map}
+use Rattle.book.specs.Book.{verdict_value}
+use Rattle.book.specs.declared.Verdict.{Verdict}
+use Rattle.book.specs.declared.Verdict.TheVariants.{Fail}
 use Rattle.report.proofs.binary.put_verdicts.Goals as goal
 
-pub loop-k-init : goal.loop-k-init
-loop-k-init c = (omega arith, c.requires, refl)
-
-pub loop-k-preserved : goal.loop-k-preserved
-loop-k-preserved c =
-    let l = c.loop-k in
-    let v = c.args.verdicts in
-    let h : l.k < length l.part = omega arith in
-    let e : length v ≡ 8 = search rules in
-    let k : l.k < length v = omega arith in
-    (omega arith, simp length-set (omega arith), rw (add-one l.k, take-suc-set l.part l.k _ h, take-suc v l.k 0 k, l.invariant.2))
+numbered : (v : List Verdict) (bytes : List ℕ) → length v ≡ 8 → length bytes ≡ 8 → ((i : ℕ) → i < 8 → get_or bytes i 0 ≡ verdict_value (get_or v i Fail)) → bytes ≡ map verdict_value v
+numbered v bytes e f h =
+    same_number_lists bytes (map verdict_value v) (rw (length-map, e, f)) (λ i lt. h i (omega arith) ∙ sym (get_or-map verdict_value v i Fail 0 (omega arith)))
 
 pub returns : goal.returns
 returns c =
-    let l = c.loop-k in
     let v = c.args.verdicts in
-    let e : length v ≡ 8 = search rules in
-    sym (take_all l.k l.part (omega arith)) ∙ l.invariant.2 ∙ take_all l.k v (omega arith)
+    let long : length v ≡ 8 = search rules in
+    let same = numbered v c.map-bytes.result long c.map-bytes.ensures.items.long (λ i lt. let q = c.map-bytes.ensures.items.at i Fail 0 lt in search rules) in
+    grind (arith, common_steps, same, c.copy_from_slice.ensures.after)

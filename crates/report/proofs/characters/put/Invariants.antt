@@ -1,12 +1,9 @@
 -- `characters::put` meets its contract: each byte becomes its two digits, in their places.
-use Rattle.std.proofs.Common.{◌≡◌, ◌-◌, ◌≤◌, [], ◌∷◌, length}
+use Rattle.std.proofs.Common.{◌≡◌, [], ◌∷◌}
 use Rattle.rules.specs.Text.{hex}
 use Rattle.report.proofs.Parts.{written}
 use Rattle.report.proofs.characters.put.Given as goal
 
 -- The invariant is that the characters of the first k bytes are written, and what follows is as it was.
 abbrev pub invariant-loop-k : goal.invariant-loop-k
-invariant-loop-k l = (l.k ≤ length l.bytes) × (l.out ≡ written (λ b. hex (b ∷ [])) 2 l.bytes l.k l.initial.out)
-
-abbrev pub decreases-loop-k : goal.decreases-loop-k
-decreases-loop-k l = length l.bytes - l.k
+invariant-loop-k l = l.out ≡ written (λ b. hex (b ∷ [])) 2 l.bytes l.k l.initial.out

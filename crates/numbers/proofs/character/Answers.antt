@@ -1,0 +1,12 @@
+-- `character` meets its contract: ten digits, and then letters.
+use borrow.Author.Tests.{lt-ltb, le-ltb}
+use Rattle.rules.specs.Text.{digit}
+use Rattle.numbers.proofs.character.Goals as goal
+
+pub returns-then-n-lt10 : goal.returns-then-n-lt10
+unfolding digit
+returns-then-n-lt10 c = rw (lt-ltb _ 10 c.if-n-lt10.true)
+
+pub returns-else-n-lt10 : goal.returns-else-n-lt10
+unfolding digit
+returns-else-n-lt10 c = rw (le-ltb _ 10 c.if-n-lt10.false)
