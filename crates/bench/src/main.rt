@@ -3,8 +3,16 @@
 
 use std::io;
 use std::io::{Read, Write};
+use stream::Broken;
 
-// One text within its limit, in as much of the buffer as its room: the number, 0 to 10, and the report lines.
+// The number, 0 to 10, in decimal and in a line of its own, which is written at once.
+fn print_number<W: Write>(stdout: &mut W, number: u8) -> io::Result<()> {
+    let line = [48 + number / 10, 48 + number % 10, b'\n'];
+    let first = if number < 10 { 1 } else { 0 };
+    stdout.write_all(&line[first..])
+}
+
+// One text within its limit, in as much of the buffer as its room: the number and the report lines.
 fn print_reports<W: Write>(
     stdout: &mut W,
     text: &[u8],
@@ -12,8 +20,7 @@ fn print_reports<W: Write>(
     report: &mut [u8],
 ) -> io::Result<()> {
     let reply = instrument::judge_within(text, limit, report);
-    let number = reply.number;
-    writeln!(stdout, "{number}")?;
+    print_number(stdout, reply.number)?;
     stdout.write_all(&report[..reply.length])
 }
 
@@ -31,7 +38,7 @@ fn all_reports<R: Read, W: Write>(
                 print_reports(stdout, &buf[..text.len], text.limit, &mut report[..room])?;
             }
             Ok(None) => break,
-            Err(broken) => return writeln!(stdout, "{broken}"),
+            Err(Broken) => return stdout.write_all(b"the stream is broken\n"),
         }
     }
     Ok(())

@@ -140,6 +140,14 @@ impl Load {
             && (0 < tank.fill || self.mass == 0)
     }
 
+    // Its mass by its centre, a tank's as an item's.
+    fn moment(self) -> u64
+        requires { (self.mass ≤ 600000000) × (self.centre ≤ 60000) }
+        ensures { result ≡ self.mass * self.centre }
+    {
+        self.mass * self.centre
+    }
+
     // What it adds to the sums.
     fn sums(self) -> Sums
         requires { Within self }
@@ -152,7 +160,7 @@ impl Load {
         Sums {
             count: 1,
             mass: self.mass,
-            moment: self.mass * self.centre,
+            moment: self.moment(),
             free,
         }
     }

@@ -1,3 +1,4 @@
 pub mod Faults
 pub mod Sets
 pub mod OneAnswer
+pub mod Tables

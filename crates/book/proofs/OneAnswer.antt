@@ -3,6 +3,10 @@ use mathlib.Core.Path.{◌≡◌, sym, ◌∙◌}
 use Rattle.book.proofs.Refusal.at.Reads as at
 use Rattle.book.proofs.Refusal.in_line.Reads as in-line
 use Rattle.book.proofs.afloat.Afloat.new.Reads as new
+use Rattle.book.proofs.table.Table.new.Reads as table-new
+use Rattle.book.proofs.table.Table.push.Reads as push
+use Rattle.book.proofs.table.Table.len.Reads as len
+use Rattle.book.proofs.table.Table.as_slice.Reads as as-slice
 use Rattle.book.proofs.U8FromFault.from.Reads as fault-number
 use Rattle.book.proofs.RefusalFromFault.from.Reads as nowhere
 use Rattle.book.proofs.BilgeTryFromU8.try_from.Reads as bilge
@@ -19,6 +23,19 @@ in_line_one κs a r r' s s' p q = p ∙ sym q
 -- A loaded ship within its ranges: the same ship.
 pub afloat_new_one : (κs a r r' s s' : _) → new.Post κs a r s → new.Post κs a r' s' → r.loaded ≡ r'.loaded
 afloat_new_one κs a r r' s s' p q = p ∙ sym q
+
+-- A table: the same rows.
+pub table_new_one : (κs a r r' s s' : _) → table-new.Post κs a r s → table-new.Post κs a r' s' → r ≡ r'
+table_new_one κs a r r' s s' p q = p ∙ sym q
+
+pub push_one : (κs a r r' s s' : _) → push.Post κs a r s → push.Post κs a r' s' → s.0.now ≡ s'.0.now
+push_one κs a r r' s s' p q = p ∙ sym q
+
+pub len_one : (κs a r r' s s' : _) → len.Post κs a r s → len.Post κs a r' s' → r ≡ r'
+len_one κs a r r' s s' p q = p.0 ∙ sym q.0
+
+pub as_slice_one : (κs a r r' s s' : _) → as-slice.Post κs a r s → as-slice.Post κs a r' s' → r.now ≡ r'.now
+as_slice_one κs a r r' s s' p q = p.0 ∙ sym q.0
 
 -- The conversions.
 pub fault_number_one : (κs a r r' s s' : _) → fault-number.Post κs a r s → fault-number.Post κs a r' s' → r ≡ r'

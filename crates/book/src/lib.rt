@@ -3,11 +3,13 @@
 #![tactic(auto)]
 
 mod afloat;
+mod table;
 
 ghost use Rattle.std.specs.Prelude.{◌≡◌};
 ghost use Rattle.book.specs.Book.{refusal, nowhere, fault_number, verdict_value, passed, bilge_told, set_told};
 
 pub use afloat::Afloat;
+pub use table::{MOST_ROWS, Table};
 
 // ---- refusals
 // Why a text or a condition is not judged: document 01's numbers sent back, and request 4's.

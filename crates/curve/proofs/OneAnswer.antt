@@ -13,6 +13,8 @@ use Rattle.book.specs.declared.Loaded.{Loaded}
 use Rattle.curve.specs.Levers.{Holds}
 use Rattle.curve.proofs.loading.weigh.Reads as weigh
 use Rattle.curve.proofs.table.loaded.Reads as loaded
+use Rattle.curve.proofs.levers.curve.Reads as curve
+use Rattle.curve.proofs.levers.areas.Reads as areas
 use Rattle.curve.proofs.tenths.Curve.of.Reads as of
 use Rattle.curve.proofs.tenths.Curve.flooding.Reads as flooding
 use Rattle.curve.proofs.tenths.Curve.y.Reads as y
@@ -45,6 +47,12 @@ loaded_one κs a r r' s s' p q = sym (loaded_back r) ∙ ap plain_loaded (p ∙ 
 -- Two arrays of 601 entries that are those of one f.
 holds_one : (f : ℕ → ℤ) (y z : List ℤ) → Holds f y → Holds f z → y ≡ z
 holds_one f y z p q = ext_get_or (pos 0) y z (p.long ∙ sym q.long) (λ i h. p.at i (omega (arith, p.long)) ∙ sym (q.at i (omega (arith, p.long))))
+
+pub curve_one : (κs a r r' s s' : _) → curve.Post κs a r s → curve.Post κs a r' s' → s.1.1.0.now ≡ s'.1.1.0.now
+curve_one κs a r r' s s' p q = holds_one _ _ _ p q
+
+pub areas_one : (κs a r r' s s' : _) → areas.Post κs a r s → areas.Post κs a r' s' → s.1.0.now ≡ s'.1.0.now
+areas_one κs a r r' s s' p q = holds_one _ _ _ p q
 
 -- A curve of a ship: the same y at each tenth, and the same areas.
 pub of_one : (κs a r r' s s' : _) → of.Post κs a r s → of.Post κs a r' s' → (r.ship.now ≡ r'.ship.now) × (r.y.now ≡ r'.y.now) × (r.area.now ≡ r'.area.now)

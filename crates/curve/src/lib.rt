@@ -1,7 +1,7 @@
 // From the sums and the table to the curve: the displacement and KG, what the table gives there, the levers, y at each tenth of a degree, areas, and searches along the curve.
 #![tactic(auto)]
 
-mod levers;
+pub mod levers;
 pub mod loading;
 mod searches;
 pub mod table;

@@ -48,8 +48,9 @@ module _ (ln len : ℕ) (s : Bor (List ℕ)) (l : 3 + len ≤ length s.now) (f b
   here : {m : Ans walk.Head} → header b.place.line b.place.offset b.src.now ≡ m → header ln 3 (part 3 (3 + len) s.now) ≡ m
   here h = rw (is, at) at h
 
-  pub head_refused : 0 < len → (x : Refusal) → (x ≡ refusal 2 b.place.line b.place.offset) × (header b.place.line b.place.offset b.src.now ≡ refused 2 b.place.line b.place.offset) → Err x ≡ answered plain_condition (Whole ln len s l)
-  head_refused z x h =
+  pub head_refused : 0 < len → (o : ℕ) (x : Refusal) → (x ≡ refusal 2 b.place.line o) × (header b.place.line o b.src.now ≡ refused 2 b.place.line o) → o ≡ b.place.offset → Err x ≡ answered plain_condition (Whole ln len s l)
+  head_refused z k x i same =
+      let h : (x ≡ refusal 2 b.place.line b.place.offset) × (header b.place.line b.place.offset b.src.now ≡ refused 2 b.place.line b.place.offset) = rw same at i in
       let e : x ≡ refusal 2 ln 3 = h.0 ∙ ap (λ (p : Place). refusal 2 p.line p.offset) at in
       let o : header ln 3 (part 3 (3 + len) s.now) ≡ refused 2 ln 3 = here h.1 ∙ ap (λ (p : Place). refused 2 p.line p.offset) at in
       ap Err e ∙ sym (ap (answered plain_condition) (inside_short ln _ (rw (← body_length, is) at z) o))
@@ -58,9 +59,9 @@ module _ (ln len : ℕ) (s : Bor (List ℕ)) (l : 3 + len ≤ length s.now) (f b
   inside_part n m h = rw at (omega (arith, body_length))
 
   -- Its first block, of n bytes.
-  module _ (tag n : ℕ) (h : (3 + n ≤ length b.src.now) × (header b.place.line b.place.offset b.src.now ≡ got (head_at tag n b.src.now))) where
+  module _ (tag n o : ℕ) (h : (3 + n ≤ length b.src.now) × (header b.place.line o b.src.now ≡ got (head_at tag n b.src.now))) (same : o ≡ b.place.offset) where
     first : Whole ln len s l ≡ (weather_at ln tag (part 3 (3 + n) b.src.now) >>= λ w. load_at ln (6 + n) (part (3 + n) (length b.src.now) b.src.now) >>= λ e. got (record { weather = w; load = e }))
-    first = sym (ap (inside ln) is) ∙ inside_block ln _ tag n h.0 (rw at at h.1)
+    first = sym (ap (inside ln) is) ∙ inside_block ln _ tag n h.0 (rw (same, at) at h.1)
 
     module _ (i : Reader) (p : OverPart b 3 (3 + n) i) where
       pub weather_refused : (x : Refusal) → Refused (weather_at ln tag i.src.now) x → Err x ≡ answered plain_condition (Whole ln len s l)

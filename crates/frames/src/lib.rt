@@ -23,16 +23,15 @@ use cursor::Reader;
 
 mod long;
 
+pub use book::MOST_ROWS;
 pub use long::LongLine;
 
-// 'At most 200 items and tanks', 'at most 4 groups deep', 'at most 4,096 bytes', '2 to 40 A2'.
+// 'At most 200 items and tanks', 'at most 4 groups deep', 'at most 4,096 bytes'.
 const MOST_ENTRIES: u64 = 200;
 
 const MOST_DEPTH: u64 = 4;
 
 pub const MOST_BYTES: usize = 4_096;
-
-pub const MOST_ROWS: usize = 40;
 
 // A3: the weather, and what the entries add up to.
 #[derive(Clone, Copy)]

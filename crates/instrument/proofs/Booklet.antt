@@ -107,10 +107,10 @@ module _ (b : Booklet) (t : List ℕ) (front : Front) (O : Opens b t front) (bef
   pub start_within : front.at ≤ length t
   start_within = omega (arith, O.begins, front_within most_characters t b O.read)
 
-  pub counted : length front.rows.items ≡ length b.rows
+  pub counted : length front.rows ≡ length b.rows
   counted = ap length O.table ∙ simp length-map refl
 
-  pub going_start : report_length * length b.conditions ≤ length before → Going b before (part front.at (length t) t) (2 + length front.rows.items) 0 0 before
+  pub going_start : report_length * length b.conditions ≤ length before → Going b before (part front.at (length t) t) (2 + length front.rows) 0 0 before
   going_start h = rw (O.begins, counted) (record {
     done = 0;
     left = b.conditions;
@@ -147,7 +147,7 @@ module _ (b : Booklet) (t : List ℕ) (front : Front) (O : Opens b t front) (bef
     sends = weaker (λ n m o h. (omega (arith, h.0), omega (arith, h.1), omega (arith, h.2, line_small), omega (arith, h.3))) (answer_refusal b.ship b.rows line first.line)
 
     -- It is a condition line of this ship and these rows.
-    pub says : (rs : List plain.Row) → rs ≡ front.rows.items → (c : ConditionLine) → c ≡ condition_line line rest → LineSays b.ship b.rows line first.line front.ship c.read rs
+    pub says : (rs : List plain.Row) → rs ≡ front.rows → (c : ConditionLine) → c ≡ condition_line line rest → LineSays b.ship b.rows line first.line front.ship c.read rs
     says rs q c e = record {
       limits = λ d q. reading_limits most_characters t b O.read (omega arith) g.done here.1 line d (ap (condition_at line) here.0 ∙ q);
       hull = O.hull;

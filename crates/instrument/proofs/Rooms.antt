@@ -122,7 +122,7 @@ module _ (most : ℕ) (t : List ℕ) (x : TextRead) (e : x ≡ told (counted_lin
           absurd (omega arith)
       framed ls q (got b) r =
           let is : x ≡ book_read (condition_lines ls) (got b) = e ∙ ap told q ∙ ap (book_read (condition_lines ls)) r in
-          let plain : Front = record { ship = plain_ship b.ship; rows = record { items = map plain_row b.rows }; at = front_characters (length (map plain_row b.rows)) } in
+          let plain : Front = record { ship = plain_ship b.ship; rows = map plain_row b.rows; at = front_characters (length (map plain_row b.rows)) } in
           let u : ◌≡◌ {A = Result Front Refusal} (Ok plain) (Ok front) = sym (ap (λ (z : TextRead). z.front) is) ∙ p in
           let v : plain ≡ front = cc in
           let w : read_whole most t ≡ got b = whole_steps ∙ bind_got _ q ∙ r in
@@ -134,7 +134,7 @@ module _ (most : ℕ) (t : List ℕ) (x : TextRead) (e : x ≡ told (counted_lin
             opens = record {
               read = ap (read_whole most_characters) (sym s.1) ∙ complete most_characters b (record { hull = L.hull; rising = L.rising; no_slips = L.no_slips; few = L.few; many = L.many; begin = L.begin; some = L.some; at_most = L.at_most; long = omega (arith, L.long) });
               hull = sym (ap (λ (z : Front). z.ship) v);
-              table = sym (ap (λ (z : Front). z.rows.items) v);
+              table = sym (ap (λ (z : Front). z.rows) v);
               begins = sym (ap (λ (z : Front). z.at) v) ∙ ap front_characters (simp length-map refl);
             };
             counted = told_counted ls q ∙ lines_read most t ls b r q;

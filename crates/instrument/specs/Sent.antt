@@ -50,7 +50,7 @@ Judged ship read rows a = (s : rules.Ship) (vs : List Row) (ln : ℕ) (l : List 
 pub record Opens (b : Booklet) (t : List ℕ) (front : Front) : Type 0 where
   pub read : read_whole most_characters t ≡ got b
   pub hull : front.ship ≡ plain_ship b.ship
-  pub table : front.rows.items ≡ map plain_row b.rows
+  pub table : front.rows ≡ map plain_row b.rows
   pub begins : front.at ≡ front_characters (length b.rows)
 
 -- There is room for its reports.

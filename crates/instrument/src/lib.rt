@@ -37,7 +37,7 @@ fn send(answer: Result<Judgement, Refusal>, report: &mut [u8]) -> Option<Fault>
     ensures fault { result ≡ fault_in answer }
     ensures report_after { report.new ≡ said answer ++ drop report_length report.old }
 {
-    report::write(report, answer);
+    report::say(report, answer);
     match answer {
         Ok(_) => None,
         Err(refusal) => Some(refusal.fault),

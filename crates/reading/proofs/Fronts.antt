@@ -19,11 +19,14 @@ use Rattle.rules.specs.Parts.{be2}
 use Rattle.rules.proofs.walk.Outcome.{bind_got, bind_refused}
 use Rattle.book.specs.Book.{fault_number, refusal, Refuses, answered, plain_ship, plain_row}
 use Rattle.book.specs.declared.Refusal.{Refusal}
+use Rattle.book.specs.declared.Ship.{Ship}
 use Rattle.book.proofs.Faults.{fault_number_lem}
 use Rattle.frames.specs.Sizes.{row_bytes}
 use Rattle.frames.specs.FrameAnswers.{ship_due, row_due, none_due, long_line}
 use Rattle.frames.proofs.LongLines.{long_ship, long_row, long_closed}
 use Rattle.reading.specs.Fronts.{Cut, Fronts, misplaced}
+use Rattle.reading.specs.Moved.{moved_conditions}
+use Rattle.reading.specs.declared.state.State.TheVariants.{Conditions, Refused}
 
 -- The first bytes of a line are those of its front.
 take_first : (l : List ℕ) → get_or (take row_bytes l) 0 0 ≡ get_or l 0 0
@@ -107,3 +110,10 @@ module _ (front : List ℕ) (n : ℕ) (l : List ℕ) (F : Fronts front n l) wher
 
     pub misplaced_long : r ≡ long_line none_due ln front n → r ≡ misplaced ln (header ln 0 l)
     misplaced_long e = sym (closed_misplaced ln l r (rw (e, long_alike ln none_due) (long_closed ln l [])))
+
+-- ---- behind a condition line
+pub one_more_line : (s : Ship) (ln : ℕ) (l : List ℕ) → is_condition l ≡ true → Conditions s ≡ moved_conditions s ln l
+one_more_line s ln l e = rw e
+
+pub other_line : (s : Ship) (ln : ℕ) (l : List ℕ) (r : Refusal) → is_condition l ≡ false → r ≡ misplaced ln (header ln 0 l) → Refused r ≡ moved_conditions s ln l
+other_line s ln l r e m = rw (e, m)

@@ -26,7 +26,7 @@ refused_read r k = record { conditions = k; front = Err r }
 
 -- A text that is read as a whole, with k condition lines.
 abbrev pub whole_read : Ship → List Row → ℕ → TextRead
-whole_read s rs k = record { conditions = k; front = Ok (record { ship = s; rows = record { items = rs }; at = front_characters (length rs) }) }
+whole_read s rs k = record { conditions = k; front = Ok (record { ship = s; rows = rs; at = front_characters (length rs) }) }
 
 -- The blocks of a text with k condition lines.
 abbrev pub book_read : ℕ → Ans Booklet → TextRead

@@ -12,11 +12,10 @@ ghost use Rattle.frames.specs.Sizes.{condition_bytes};
 ghost use Rattle.reading.specs.TextAnswers.{told, refused_read, no_line, condition_line};
 ghost use Rattle.reading.specs.Moved.{finished};
 
-use arrayvec::ArrayVec;
-use book::{Fault, Refusal, Row, Ship};
-use frames::{Condition, LongLine, MOST_BYTES, MOST_ROWS};
+use book::{Fault, Refusal, Ship, Table};
+use frames::{Condition, LongLine, MOST_BYTES};
 use held::Held;
-use state::{State, Tally};
+pub use state::{Moved, State, Tally};
 
 // The bytes of the ship's line; of a row's, of which no ship and no row has more; of the longest condition's that is not refused for its length.
 const SHIP_BYTES: usize = 16;
@@ -31,15 +30,15 @@ const SHIP_LINE: usize = 2 * SHIP_BYTES + 1;
 const ROW_LINE: usize = 2 * ROW_BYTES + 1;
 
 // What a text says before its conditions: the ship, the rows, and where the first condition line begins.
-#[derive(Drop)]
+#[derive(Clone, Copy)]
 pub struct Front {
     pub ship: Ship,
-    pub rows: ArrayVec<Row, MOST_ROWS>,
+    pub rows: Table,
     pub at: usize,
 }
 
 // How many condition lines there are, none where 1 or the 25th refuses the text; and what was read before them.
-#[derive(Drop)]
+#[derive(Clone, Copy)]
 pub struct TextRead {
     pub conditions: usize,
     pub front: Result<Front, Refusal>,
@@ -53,36 +52,37 @@ pub struct ConditionLine {
 }
 
 impl TextRead {
-    // None of its condition lines is counted.
-    fn uncounted(refusal: Refusal) -> Self
-        ensures { result ≡ refused_read refusal 0 }
+    fn refused(refusal: Refusal, conditions: usize) -> Self
+        ensures { result ≡ refused_read refusal conditions }
     {
         TextRead {
-            conditions: 0,
+            conditions,
             front: Err(refusal),
         }
     }
 }
 
 // What a text comes to where it ends, before this line. 5: 'empty text', 'no A3', at the number of lines; 'a 25th condition line' goes before.
-fn finish(state: State, rows: ArrayVec<Row, MOST_ROWS>, line: usize, tally: Tally) -> TextRead
+fn finish(state: State, rows: Table, line: usize, tally: Tally) -> TextRead
     requires { 1 ≤ line }
-    ensures { result ≡ finished state rows.items line tally }
+    ensures { result ≡ finished state rows line tally }
 {
     if let Some(over) = tally.over {
-        return TextRead::uncounted(Refusal::in_line(Fault::Owed, over));
+        return TextRead::refused(Refusal::in_line(Fault::Owed, over), 0);
     }
-    let front = match state {
-        State::Awaited | State::Rows { .. } => Err(Refusal::in_line(Fault::Owed, line - 1)),
+    let conditions = tally.conditions;
+    match state {
+        State::Awaited | State::Rows { .. } => {
+            TextRead::refused(Refusal::in_line(Fault::Owed, line - 1), conditions)
+        }
         State::Conditions(ship) => {
             let at = SHIP_LINE + ROW_LINE * rows.len();
-            Ok(Front { ship, rows, at })
+            TextRead {
+                conditions,
+                front: Ok(Front { ship, rows, at }),
+            }
         }
-        State::Refused(refusal) => Err(refusal),
-    };
-    TextRead {
-        conditions: tally.conditions,
-        front,
+        State::Refused(refusal) => TextRead::refused(refusal, conditions),
     }
 }
 
@@ -91,7 +91,7 @@ pub fn read_text(text: &[u8], most: usize) -> TextRead
     ensures { result ≡ told (counted_lines most text.now) }
 {
     if most < text.len() {
-        return TextRead::uncounted(Fault::NoLine.into());
+        return TextRead::refused(Fault::NoLine.into(), 0);
     }
     let mut bytes = [0u8; ROW_BYTES];
     let mut rest = text;
@@ -101,10 +101,10 @@ pub fn read_text(text: &[u8], most: usize) -> TextRead
         over: None,
     };
     let mut state = State::Awaited;
-    let mut rows = ArrayVec::new();
+    let mut rows = Table::new();
     loop {
         let Ok(read) = text::line_at(rest, &mut bytes) else {
-            return TextRead::uncounted(Refusal::in_line(Fault::NoLine, line));
+            return TextRead::refused(Refusal::in_line(Fault::NoLine, line), 0);
         };
         let Some(n) = read else {
             return finish(state, rows, line, tally);

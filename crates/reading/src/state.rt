@@ -72,6 +72,7 @@ fn row_line(ship: Ship, last: u64, held: Held, rows: usize) -> Moved
 }
 
 // Behind a condition line only others: 2, 4.
+#[tactic(auto, using(crate::proofs::Fronts::one_more_line, crate::proofs::Fronts::other_line))]
 fn condition_line(ship: Ship, held: Held) -> State
     ensures { OfLine held.entry (λ line l. result ≡ moved_conditions ship line l) }
 {

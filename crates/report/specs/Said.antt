@@ -1,8 +1,8 @@
 -- What the report says: a judgement, or a refusal with no judgement.
-use Rattle.std.specs.Prelude.{ℕ, List, ◌∷◌, ◌++◌, map, Result, Ok, Err}
+use Rattle.std.specs.Prelude.{ℕ, List, ◌∷◌, ◌++◌, map, Option, None, Some, Result, Ok, Err}
 use Rattle.rules.specs.Numbers.{digits}
 use Rattle.rules.specs.Report.{report_tag, report_line, report, no_judgement}
-use Rattle.book.specs.Book.{fault_number, verdict_value, judgement_of}
+use Rattle.book.specs.Book.{fault_number, verdict_value}
 use Rattle.book.specs.declared.Judgement.{Judgement}
 use Rattle.book.specs.declared.Refusal.{Refusal}
 use Rattle.report.specs.declared.Heading.{Heading}
@@ -11,16 +11,16 @@ use Rattle.report.specs.declared.Heading.{Heading}
 abbrev pub frame_head : ℕ → ℕ → ℕ → List ℕ
 frame_head number line offset = report_tag ∷ digits 2 0x65 ++ digits 1 number ++ digits 2 line ++ digits 2 offset
 
--- What stands in the frame of an answer.
-abbrev pub heading_of : Result Judgement Refusal → Heading
-heading_of (Ok j) = record { number = 0; line = 0; offset = 0 }
-heading_of (Err r) = record { number = fault_number r.fault; line = r.place.line; offset = r.place.offset }
+-- The heading of a refusal; number, line and offset are 0 where there is none.
+abbrev pub heading_of : Option Refusal → Heading
+heading_of None = record { number = 0; line = 0; offset = 0 }
+heading_of (Some r) = record { number = fault_number r.fault; line = r.place.line; offset = r.place.offset }
 
-abbrev pub judgement_in : Result Judgement Refusal → Judgement
-judgement_in (Ok j) = j
-judgement_in (Err r) = judgement_of no_judgement
+-- A report with this heading, and these verdicts and figures.
+abbrev pub report_with : Option Refusal → Judgement → List ℕ
+report_with r j = report_line (heading_of r).number (heading_of r).line (heading_of r).offset (map verdict_value j.verdicts) j.figures
 
--- Number, line and offset are 0 for a judgement; 'on refusals 1 to 8 verdicts are 3 and figures 0'.
+-- What the report says of an answer: a judgement with no refusal; 'on refusals 1 to 8 verdicts are 3 and figures 0'.
 abbrev pub said : Result Judgement Refusal → List ℕ
 said (Ok j) = report_line 0 0 0 (map verdict_value j.verdicts) j.figures
 said (Err r) = report (fault_number r.fault) r.place.line r.place.offset no_judgement

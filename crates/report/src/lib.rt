@@ -4,12 +4,12 @@
 mod binary;
 mod characters;
 
-ghost use Rattle.std.specs.Prelude.{◌≡◌, ◌<◌, ◌≤◌, ◌++◌, map, length, drop};
+ghost use Rattle.std.specs.Prelude.{◌≡◌, ◌<◌, ◌≤◌, ◌++◌, map, length, drop, IfSome};
 ghost use Rattle.std.specs.Result.{ForErr};
 ghost use Rattle.rules.specs.Blocks.{block};
 ghost use Rattle.rules.specs.Report.{report_tag, report_body, report_length, no_judgement};
 ghost use Rattle.book.specs.Book.{verdict_value, judgement_of};
-ghost use Rattle.report.specs.Said.{frame_head, heading_of, judgement_in, said};
+ghost use Rattle.report.specs.Said.{frame_head, heading_of, report_with, said};
 
 use book::{Judgement, Refusal, Verdict};
 
@@ -60,41 +60,46 @@ fn no_judgement() -> Judgement
     }
 }
 
-// What stands in the frame: of a judgement with number, line and offset 0, of a refusal with no judgement.
-fn stands(answer: Result<Judgement, Refusal>) -> (Heading, Judgement)
-    requires { ForErr answer (λ refusal. (refusal.place.line < 65536) × (refusal.place.offset < 65536)) }
-    ensures heading { result.0 ≡ heading_of answer }
-    ensures judgement { result.1 ≡ judgement_in answer }
+// The heading of a refusal; where there is none, number, line and offset 0.
+fn headed(refusal: Option<Refusal>) -> Heading
+    requires { IfSome refusal (λ r. (r.place.line < 65536) × (r.place.offset < 65536)) }
+    ensures { result ≡ heading_of refusal }
 {
-    match answer {
-        Ok(judgement) => {
-            let heading = Heading {
-                number: 0,
-                line: 0,
-                offset: 0,
-            };
-            (heading, judgement)
-        }
-        Err(refusal) => {
-            let heading = Heading {
-                number: u8::from(refusal.fault),
-                line: refusal.place.line as u16,
-                offset: refusal.place.offset as u16,
-            };
-            (heading, no_judgement())
-        }
+    match refusal {
+        Some(refusal) => Heading {
+            number: u8::from(refusal.fault),
+            line: refusal.place.line as u16,
+            offset: refusal.place.offset as u16,
+        },
+        None => Heading {
+            number: 0,
+            line: 0,
+            offset: 0,
+        },
     }
 }
 
-// Writes the report of a judgement, or of a refusal, into the front of a buffer: the frame, two characters to a byte, and LF. Bytes beyond keep their values.
-pub fn write(report: &mut [u8], answer: Result<Judgement, Refusal>)
+// Writes a report into the front of a buffer, of a refusal or of none, and of a judgement beside it: the frame, two characters to a byte, and LF. Bytes beyond keep their values.
+pub fn write(report: &mut [u8], refusal: Option<Refusal>, judgement: Judgement)
     requires report_length_in_bounds { report_length ≤ length report.old }
-    requires line_bound { ForErr answer (λ refusal. (refusal.place.line < 65536) × (refusal.place.offset < 65536)) }
-    ensures { report.new ≡ said answer ++ drop report_length report.old }
+    requires line_bound { IfSome refusal (λ r. (r.place.line < 65536) × (r.place.offset < 65536)) }
+    ensures { report.new ≡ report_with refusal judgement ++ drop report_length report.old }
 {
-    let (heading, judgement) = stands(answer);
+    let heading = headed(refusal);
     let mut frame = [0u8; 104];
     put_frame(&mut frame, heading, judgement);
     characters::put(report, &frame);
     report[208] = b'\n';
+}
+
+// The report of an answer: of a judgement with no refusal, or of a refusal with no judgement.
+pub fn say(report: &mut [u8], answer: Result<Judgement, Refusal>)
+    requires report_length_in_bounds { report_length ≤ length report.old }
+    requires line_bound { ForErr answer (λ refusal. (refusal.place.line < 65536) × (refusal.place.offset < 65536)) }
+    ensures { report.new ≡ said answer ++ drop report_length report.old }
+{
+    match answer {
+        Ok(judgement) => write(report, None, judgement),
+        Err(refusal) => write(report, Some(refusal), no_judgement()),
+    }
 }

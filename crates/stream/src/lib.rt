@@ -35,6 +35,19 @@ impl From<io::Error> for Broken {
     }
 }
 
+// Reads until the buffer is full. The end of the stream before that breaks it, and so does a read that fails.
+fn fill<R: Read>(input: &mut R, buf: &mut [u8]) -> Result<(), Broken> {
+    let mut n = 0;
+    while n < buf.len() {
+        let more = input.read(&mut buf[n..])?;
+        if more == 0 {
+            return Err(Broken);
+        }
+        n += more;
+    }
+    Ok(())
+}
+
 // The next text, into the front of a buffer, or none where the stream has ended. A first read that fails counts as the end of the stream; one that fails
 // within a head or a text breaks it.
 pub fn next_text<R: Read>(input: &mut R, buf: &mut [u8]) -> Result<Option<Text>, Broken>
@@ -45,12 +58,12 @@ pub fn next_text<R: Read>(input: &mut R, buf: &mut [u8]) -> Result<Option<Text>,
     if got == 0 {
         return Ok(None);
     }
-    input.read_exact(&mut head[got..])?;
+    fill(input, &mut head[got..])?;
     let len = numbers::number_at::<4>(&head, 0) as usize;
     if buf.len() < len {
         return Err(Broken);
     }
-    input.read_exact(&mut buf[..len])?;
+    fill(input, &mut buf[..len])?;
     Ok(Some(Text {
         len,
         limit: numbers::number_at::<4>(&head, 4) as usize,

@@ -2,11 +2,10 @@
 use mathlib.Core.Path.{◌≡◌, refl, sym, ◌∙◌}
 use mathlib.Core.Bool.{Bool, true, false, cond, ◌&&◌}
 use mathlib.Core.List.{List, ◌∷◌}
-use Prim.Native.Nat.{ℕ, zero, suc, ◌+◌, ◌-◌, ◌*◌, ◌≤◌, ◌<◌}
+use Prim.Native.Nat.{ℕ, zero, suc, ◌+◌, ◌-◌, ◌*◌, ◌<◌}
 use native.Mathlib.Omega.{arith}
-use native.Mathlib.Numerals.{add-one}
 use lib.Dec.{leb, ltb, eqb}
-use lib.ListN.{get_or, set}
+use lib.ListN.{get_or}
 use borrow.Author.Tests.{leb-true, eqb-true, eqb-false, le-ltb, ne_eqb}
 use Rattle.rules.specs.Text.{LF, digit}
 use Rattle.rules.specs.Outcome.{Ans, refused, got, ◌>>=◌}
@@ -37,20 +36,6 @@ table_digits = record { all = refl; each = λ c h. agrees (digits_up_to 16) 256 
 
 pub has_digits : (v : List ℕ) → v ≡ digits_up_to 16 → HasDigits v
 has_digits v e = rw e table_digits
-
--- One digit more.
-pub next_digit : (v : List ℕ) (n k x : ℕ) → v ≡ digits_up_to n → k ≡ digit n → x ≡ n → set v k x ≡ digits_up_to (n + 1)
-unfolding digits_up_to
-next_digit v n k x p q r = rw (add-one n, p, q, r)
-
--- Each character lies within the table.
-pub character_below : (n : ℕ) → n < 16 → digit n ≤ 70
-unfolding digit
-character_below n h = go (ltb n 10)
-  where
-    go : (b : Bool) → cond b (48 + n) (55 + n) ≤ 70
-    go true = omega arith
-    go false = omega arith
 
 -- ---- what a digit and a pair say in any line
 abbrev digit_says : ℕ → ℕ → Ans ℕ

@@ -2,21 +2,33 @@
 ghost use Rattle.std.specs.Prelude.{◌≡◌, length, take, take_while};
 ghost use Rattle.text.specs.Line.{HasDigits, is_pair, pair_of, decoded, over};
 
-// The value of each digit by its character, in a table of 16s, which is the value of no digit.
-#[derive(Drop)]
+// The value of no digit.
+const NO: u8 = 16;
+
+// The value of each character: '0' to '9' are 48 to 57, 'A' to 'F' 65 to 70.
+static VALUES: [u8; 256] = [
+    NO, NO, NO, NO, NO, NO, NO, NO, NO, NO, NO, NO, NO, NO, NO, NO, NO, NO, NO, NO, NO, NO, NO, NO,
+    NO, NO, NO, NO, NO, NO, NO, NO, NO, NO, NO, NO, NO, NO, NO, NO, NO, NO, NO, NO, NO, NO, NO, NO,
+    0, 1, 2, 3, 4, 5, 6, 7, 8, 9, NO, NO, NO, NO, NO, NO, NO, 10, 11, 12, 13, 14, 15, NO, NO, NO,
+    NO, NO, NO, NO, NO, NO, NO, NO, NO, NO, NO, NO, NO, NO, NO, NO, NO, NO, NO, NO, NO, NO, NO, NO,
+    NO, NO, NO, NO, NO, NO, NO, NO, NO, NO, NO, NO, NO, NO, NO, NO, NO, NO, NO, NO, NO, NO, NO, NO,
+    NO, NO, NO, NO, NO, NO, NO, NO, NO, NO, NO, NO, NO, NO, NO, NO, NO, NO, NO, NO, NO, NO, NO, NO,
+    NO, NO, NO, NO, NO, NO, NO, NO, NO, NO, NO, NO, NO, NO, NO, NO, NO, NO, NO, NO, NO, NO, NO, NO,
+    NO, NO, NO, NO, NO, NO, NO, NO, NO, NO, NO, NO, NO, NO, NO, NO, NO, NO, NO, NO, NO, NO, NO, NO,
+    NO, NO, NO, NO, NO, NO, NO, NO, NO, NO, NO, NO, NO, NO, NO, NO, NO, NO, NO, NO, NO, NO, NO, NO,
+    NO, NO, NO, NO, NO, NO, NO, NO, NO, NO, NO, NO, NO, NO, NO, NO, NO, NO, NO, NO, NO, NO, NO, NO,
+    NO, NO, NO, NO, NO, NO, NO, NO, NO, NO, NO, NO, NO, NO,
+];
+
+#[derive(Clone, Copy)]
 pub struct Digits {
-    values: [u8; 256],
-    ghost all: { HasDigits values },
+    values: &'static [u8; 256],
+    ghost all: { HasDigits values.now },
 }
 
 impl Digits {
-    #[tactic(auto, using(crate::proofs::Digits::next_digit, crate::proofs::Digits::character_below))]
     pub fn new() -> Self {
-        let mut values = [16u8; 256];
-        for n in 0..16 {
-            values[usize::from(numbers::character(n))] = n;
-        }
-        Digits { values }
+        Digits { values: &VALUES }
     }
 
     // Two digits to a byte.

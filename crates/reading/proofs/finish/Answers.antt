@@ -1,16 +1,8 @@
--- State by state, where no 25th condition line has come.
-use mathlib.Core.Logic.{inl, inr}
+-- The text is read as a whole, where no 25th condition line has come.
+use mathlib.Core.Path.{refl}
 use Rattle.frames.specs.Sizes.{ship_bytes, row_bytes}
 use Rattle.reading.proofs.finish.Goals as goal
-use Rattle.reading.proofs.finish.Goals.{in-Awaited, in-Conditions, in-Refused}
 
-pub returns : goal.returns
+pub returns-in-Conditions : goal.returns-in-Conditions
 unfolding row_bytes ship_bytes
-returns c = elim c.match-state.branch [
-  | in-Awaited w ↦ elim w.in-Awaited.is [
-    | inl p ↦ rw (w.front-is, w.in_line-in-Awaited.ensures, p, c.in_default.is)
-    | inr p ↦ rw (w.front-is, w.in_line-in-Awaited.ensures, p.2, c.in_default.is)
-  ]
-  | in-Conditions w ↦ rw (w.front-is, w.len.ensures.value, w.in-Conditions.is, c.in_default.is)
-  | in-Refused w ↦ rw (w.front-is, w.in-Refused.is, c.in_default.is)
-]
+returns-in-Conditions c = rw (c.len.ensures.value, c.in-Conditions.is, c.in_default.is) refl

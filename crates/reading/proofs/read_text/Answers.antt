@@ -10,14 +10,14 @@ use Rattle.reading.proofs.read_text.Goals as goal
 use Rattle.reading.proofs.read_text.Goals.{in-Some-row, in_default-row}
 
 pub returns-then-most-text : goal.returns-then-most-text
-returns-then-most-text c = c.uncounted.ensures ∙ ap (λ r. refused_read r 0) c.into.ensures ∙ sym (read_long c.args.most c.args.text.now (omega arith))
+returns-then-most-text c = c.refused.ensures ∙ ap (λ r. refused_read r 0) c.into.ensures ∙ sym (read_long c.args.most c.args.text.now (omega arith))
 
 pub loop-read-init : goal.loop-read-init
 loop-read-init c = rw c.new-rows.ensures (reached_none c.args.most c.args.text.now (search rules) (omega arith))
 
 pub returns-in_default : goal.returns-in_default
 returns-in_default c =
-    c.uncounted-in_default.ensures ∙ ap (λ r. refused_read r 0) c.in_line.ensures ∙ reached_not c.loop-read.invariant c.line_at.result c.line_at.ensures.0 c.in_default.is
+    c.refused-in_default.ensures ∙ ap (λ r. refused_read r 0) c.in_line.ensures ∙ reached_not c.loop-read.invariant c.line_at.result c.line_at.ensures.0 c.in_default.is
 
 pub returns-in_default-read : goal.returns-in_default-read
 returns-in_default-read c = c.finish.ensures ∙ reached_end c.loop-read.invariant c.line_at.result c.line_at.ensures.0 (c.in-Ok.is ∙ ap Ok c.in_default-read.is)
@@ -30,7 +30,7 @@ push-requires c =
     let l = c.line_at in
     let h = c.new-held in
     let is = c.in-Ok.is ∙ ap Ok c.in-Some.is in
-    (omega arith, room_here i.invariant _ l.ensures.0 _ is i.bytes l.new.out l.ensures.1 h.result (search rules) h.ensures.0 h.ensures.1 h.ensures.2 c.moved-moved.result c.moved-moved.ensures (omega (arith, c.len.ensures.value)) _ c.in-Some-row.is)
+    room_here i.invariant _ l.ensures.0 _ is i.bytes l.new.out l.ensures.1 h.result (search rules) h.ensures.0 h.ensures.1 h.ensures.2 c.moved-moved.result c.moved-moved.ensures (omega (arith, c.len.ensures.value)) _ c.in-Some-row.is
 
 pub overflow_mul-rest : goal.overflow_mul-rest
 overflow_mul-rest c =
@@ -60,5 +60,5 @@ loop-read-preserved c =
     let l = c.line_at in
     let h = c.new-held in
     let is = c.in-Ok.is ∙ ap Ok c.in-Some.is in
-    reached_more i.invariant _ l.ensures.0 _ is i.bytes l.new.out l.ensures.1 h.result (search rules) h.ensures.0 h.ensures.1 h.ensures.2 c.moved-moved.result c.moved-moved.ensures (omega (arith, c.len.ensures.value)) c.tallied-tally.result c.tallied-tally.ensures c.match-moved.rows.items
-    (elim c.match-moved.branch [ in-Some-row w ↦ rw (w.rows-is, w.in-Some-row.is, w.push.ensures.items) | in_default-row w ↦ rw (w.rows-is, w.in_default-row.is) ])
+    reached_more i.invariant _ l.ensures.0 _ is i.bytes l.new.out l.ensures.1 h.result (search rules) h.ensures.0 h.ensures.1 h.ensures.2 c.moved-moved.result c.moved-moved.ensures (omega (arith, c.len.ensures.value)) c.tallied-tally.result c.tallied-tally.ensures c.match-moved.rows
+    (elim c.match-moved.branch [ in-Some-row w ↦ rw (w.rows-is, w.in-Some-row.is, w.push.ensures) | in_default-row w ↦ rw (w.rows-is, w.in_default-row.is) ])

@@ -4,7 +4,7 @@ use Rattle.reading.proofs.Lines.{Reached}
 use Rattle.reading.proofs.read_text.Given as goal
 
 abbrev pub invariant-loop-read : goal.invariant-loop-read
-invariant-loop-read l = Reached l.most l.text l.state l.rows.items l.line l.tally l.rest
+invariant-loop-read l = Reached l.most l.text l.state l.rows l.line l.tally l.rest
 
 abbrev pub decreases-loop-read : goal.decreases-loop-read
 decreases-loop-read l = length l.rest

@@ -1,5 +1,4 @@
 -- `sums` meets its contract: mass, moment and free surface, within what fits the machine's number.
-use native.Mathlib.Omega.{arith}
 use Rattle.blocks.proofs.Limits.{limits_load, limits_tank, sums_none, sums_some}
 use Rattle.blocks.proofs.entries.Load.sums.Goals as goal
 use Rattle.blocks.proofs.entries.Load.sums.Goals.{in-None, in-Some}
@@ -7,11 +6,11 @@ use Rattle.blocks.proofs.entries.Load.sums.Goals.{in-None, in-Some}
 pub free_surface-free-requires : goal.free_surface-free-requires
 free_surface-free-requires c = limits_tank c.args.self c.in-Some.tank c.requires c.in-Some.is
 
-pub overflow_mul-result : goal.overflow_mul-result
-overflow_mul-result c = let h = limits_load c.args.self c.requires in grind arith
+pub moment-requires : goal.moment-requires
+moment-requires c = limits_load c.args.self c.requires
 
 pub returns : goal.returns
-returns c k v e = elim c.match-self.branch [
+returns c k v e = rw c.moment.ensures (elim c.match-self.branch [
   | in-None w ↦ sums_none c.args.self k v e c.match-self.free w.in-None.is w.free-is
   | in-Some w ↦ sums_some c.args.self k v e c.match-self.free w.in-Some.tank w.in-Some.is (rw w.free-is w.free_surface-free.ensures)
-]
+])
