@@ -1,5 +1,5 @@
-// Numbers in bytes, 'big-endian and unsigned', limits, and the characters of digits: what the reading of characters, of blocks and of a
-// stream, and the report, share.
+// Numbers in bytes, 'big-endian and unsigned', limits, and the characters of digits: what the reading of blocks and of a stream, and
+// the report, share.
 #![tactic(auto)]
 
 ghost use Rattle.std.specs.Prelude.{◌≡◌, ◌&&◌, ◌+◌, ◌<◌, ◌≤◌, ◌^◌, length, take, drop, leb};

@@ -52,6 +52,7 @@ pub struct ConditionLine {
 }
 
 impl TextRead {
+    // Refused as a whole, with so many condition lines counted.
     fn refused(refusal: Refusal, conditions: usize) -> Self
         ensures { result ≡ refused_read refusal conditions }
     {

@@ -20,6 +20,7 @@ static VALUES: [u8; 256] = [
     NO, NO, NO, NO, NO, NO, NO, NO, NO, NO, NO, NO, NO, NO,
 ];
 
+// The table of digits.
 #[derive(Clone, Copy)]
 pub struct Digits {
     values: &'static [u8; 256],
